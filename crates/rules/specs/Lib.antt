@@ -1,0 +1,5 @@
+pub mod Judgement
+pub mod Linear
+pub mod Outcomes
+pub mod Settled
+pub mod Worked
