@@ -1,0 +1,4 @@
+pub mod Closing
+pub mod Places
+pub mod Weighing
+pub mod Writing

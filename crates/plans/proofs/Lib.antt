@@ -1,0 +1,11 @@
+pub mod Adding
+pub mod Answering
+pub mod Changing
+pub mod Cutting
+pub mod Fitting
+pub mod Histories
+pub mod Lawful
+pub mod Laying
+pub mod Placing
+pub mod Settling
+pub mod Shape
