@@ -13,7 +13,7 @@ use Rattle.refusals.specs.declared.Refusal.{Refusal}
 use Rattle.refusals.specs.declared.Refusal.the-variants.{TooWide, TooManyParts, ShortList}
 use Rattle.plans.specs.declared.part.Part.{Part}
 use Rattle.plans.specs.Model.{Model, size}
-use Rattle.rules.specs.declared.rule.Rule.{Ghosts as RuleMeaning}
+use Rattle.rules.specs.Automaton.{Automaton}
 use Rattle.scales.specs.declared.scale.Scale.{Ghosts as ScaleMeaning}
 use Rattle.scales.specs.declared.weigher.Weigher.{Ghosts as WeigherMeaning}
 use Rattle.sums.specs.Chain.{after-pass, closing, answer}
@@ -32,31 +32,31 @@ abbrev pub second-written : ℕ → ℕ → ℕ
 second-written m zero = 0
 second-written m (suc passes) = m
 
-module _ {V X Y : Type 0} (scale : ScaleMeaning V) (rules : RuleMeaning X) (rule : X) (weighers : WeigherMeaning Y V) (weigher : Y) where
+module _ {V Y : Type 0} (scale : ScaleMeaning V) (rule : Automaton) (weighers : WeigherMeaning Y V) (weigher : Y) where
   -- The totals after one more pass, from those that a list holds.
   abbrev pub pass-totals : List Part → List V → ℕ → V
-  pass-totals pass totals = after-pass scale rules rule (up-of scale weighers weigher) (down-of scale weighers weigher) pass (λ s. getD totals s (scale .zero))
+  pass-totals pass totals = after-pass scale rule (up-of scale weighers weigher) (down-of scale weighers weigher) pass (λ s. getD totals s (scale .zero))
 
   -- The closing totals by state.
   abbrev pub closing-of : Model → ℕ → V
-  closing-of plan = closing scale rules rule (up-of scale weighers weigher) (down-of scale weighers weigher) plan
+  closing-of plan = closing scale rule (up-of scale weighers weigher) (down-of scale weighers weigher) plan
 
   -- The answers: kept, lost and aside at the places 0, 1 and 2.
   abbrev pub answer-of : Model → ℕ → V
-  answer-of plan = answer scale rules rule (up-of scale weighers weigher) (down-of scale weighers weigher) plan
+  answer-of plan = answer scale rule (up-of scale weighers weigher) (down-of scale weighers weigher) plan
 
   module _ (plan : Model) (was-totals was-next was-answer totals next answers : List V) where
     -- It is accepted, replies with m, and writes the closing totals and the answers.
     pub record Accepted (reply : ℕ) : Type 0 where
-      pub allowed : refusal (rules .states rule) (size plan) (weighers .limit) (length was-totals) (length was-next) (length was-answer) ≡ None
-      pub replied : reply ≡ rules .states rule
-      pub first-list : Written (scale .zero) (rules .states rule) (closing-of plan) was-totals totals
-      pub second-list : Written (scale .zero) (second-written (rules .states rule) (length plan)) (closing-of plan) was-next next
+      pub allowed : refusal (rule .states) (size plan) (weighers .limit) (length was-totals) (length was-next) (length was-answer) ≡ None
+      pub replied : reply ≡ rule .states
+      pub first-list : Written (scale .zero) (rule .states) (closing-of plan) was-totals totals
+      pub second-list : Written (scale .zero) (second-written (rule .states) (length plan)) (closing-of plan) was-next next
       pub answer-list : Written (scale .zero) 3 (answer-of plan) was-answer answers
 
     -- It is declined for the first reason that there is, and writes nothing.
     pub record Declined (reason : Refusal) : Type 0 where
-      pub because : refusal (rules .states rule) (size plan) (weighers .limit) (length was-totals) (length was-next) (length was-answer) ≡ Some reason
+      pub because : refusal (rule .states) (size plan) (weighers .limit) (length was-totals) (length was-next) (length was-answer) ≡ Some reason
       pub same-totals : totals ≡ was-totals
       pub same-next : next ≡ was-next
       pub same-answers : answers ≡ was-answer

@@ -4,6 +4,7 @@ ghost use mathlib.Core.List.{[]};
 ghost use Prim.Native.Nat.{_<_, _≤_};
 ghost use lib.ListN.{length, getD};
 ghost use Rattle.plans.specs.Passes.{passes};
+ghost use Rattle.rules.specs.Automaton.{automaton};
 ghost use Rattle.evaluation.specs.Evaluation.{Evaluated, pass-totals};
 ghost use Rattle.evaluation.specs.Written.{Written};
 use crate::totals::advance;
@@ -26,7 +27,7 @@ pub fn evaluate<R: Rule, W: Weigher>(
     next: &mut [W::Value],
     answer: &mut [W::Value],
 ) -> Result<usize, Refusal>
-    ensures { λ r. ⌜ Evaluated Value·Scale R·Rule (now (rule .entry)) W·Weigher (now (weigher .entry)) (passes (now (plan .entry))) (now (totals .entry)) (now (next .entry)) (now (answer .entry)) (now (totals .exit)) (now (next .exit)) (now (answer .exit)) r ⌝ }
+    ensures { λ r. ⌜ Evaluated Value·Scale (automaton R·Rule (now (rule .entry))) W·Weigher (now (weigher .entry)) (passes (now (plan .entry))) (now (totals .entry)) (now (next .entry)) (now (answer .entry)) (now (totals .exit)) (now (next .exit)) (now (answer .exit)) r ⌝ }
 {
     let m = rule.states();
     if m == 0 {
@@ -57,8 +58,8 @@ fn carry<R: Rule, W: Weigher>(
     next: &mut [W::Value],
 )
     requires { ⌜ p < length (passes (now plan)) ⌝ ∗ ⌜ m ≡ states (now rule) ⌝ ∗ ⌜ m ≤ length (now totals) ⌝ ∗ ⌜ m ≤ length (now next) ⌝ }
-    ensures totals { λ _. ⌜ Written (Value·Scale .zero) m (pass-totals Value·Scale R·Rule (now (rule .entry)) W·Weigher (now (weigher .entry)) (getD (passes (now (plan .entry))) p []) (now (totals .entry))) (now (totals .entry)) (now (totals .exit)) ⌝ }
-    ensures next { λ _. ⌜ Written (Value·Scale .zero) m (pass-totals Value·Scale R·Rule (now (rule .entry)) W·Weigher (now (weigher .entry)) (getD (passes (now (plan .entry))) p []) (now (totals .entry))) (now (next .entry)) (now (next .exit)) ⌝ }
+    ensures totals { λ _. ⌜ Written (Value·Scale .zero) m (pass-totals Value·Scale (automaton R·Rule (now (rule .entry))) W·Weigher (now (weigher .entry)) (getD (passes (now (plan .entry))) p []) (now (totals .entry))) (now (totals .entry)) (now (totals .exit)) ⌝ }
+    ensures next { λ _. ⌜ Written (Value·Scale .zero) m (pass-totals Value·Scale (automaton R·Rule (now (rule .entry))) W·Weigher (now (weigher .entry)) (getD (passes (now (plan .entry))) p []) (now (totals .entry))) (now (next .entry)) (now (next .exit)) ⌝ }
 {
     if let Some(pass) = plan.pass(p) {
         let (good, bad) = pass_weights(weigher, pass);

@@ -8,11 +8,10 @@ use native.Mathlib.Omega.{arith}
 use Rattle.std.specs.Orderings.{Decides}
 use Rattle.std.proofs.shelf.Tests.{cases-lt}
 use Rattle.std.proofs.shelf.Ways.{tells, not-from-decides}
-use Rattle.rules.specs.declared.linear.Linear.{Linear}
 use Rattle.rules.specs.declared.verdict.Verdict.{Verdict}
 use Rattle.rules.specs.declared.verdict.Verdict.the-variants.{Kept, Lost}
 use Rattle.rules.specs.Judgement.{reached, judgement}
-use Rattle.rules.specs.Linear.{linear-step, linear-verdict, linear-meaning, linear-judges, LinearSettles}
+use Rattle.rules.specs.Linear.{linear-step, linear-verdict, linear, linear-judges, LinearSettles}
 use Rattle.rules.specs.Outcomes.{SomeRun, some-run}
 use Rattle.rules.proofs.Decided.{decides-run}
 use Rattle.rules.proofs.Runs.{Present, present-at-start, present-after-made, present-after-missed, run-completed, run-stays, no-run-in-fewer, no-run-after-made, no-run-after-missed}
@@ -52,10 +51,9 @@ module _ (k : ℕ) (least : 1 ≤ k) where
   verdict-settled os s (running h p none) = kept-where-none k os (grind (arith, tells)) none
   verdict-settled os s (over h run) = lost-where-some k os (grind (arith, tells)) run
 
-pub judgement-settled : (rule : Linear) (os : List Bool) → LinearSettles (rule .k) os (judgement linear-meaning rule os)
-judgement-settled rule os =
-    verdict-settled (rule .k) (rule .least) os (reached linear-meaning rule 0 os)
-    (said-of-reached linear-meaning rule (Says (rule .k)) (step-says (rule .k) (rule .least)) (first-says (rule .k) (rule .least)) os)
+pub judgement-settled : (k : ℕ) (os : List Bool) → 1 ≤ k → LinearSettles k os (judgement (linear k) os)
+judgement-settled k os least =
+    verdict-settled k least os (reached (linear k) 0 os) (said-of-reached (linear k) (Says k) (step-says k least) (first-says k least) os)
 
 pub definition-settled : (k : ℕ) (os : List Bool) → LinearSettles k os (linear-judges k os)
 definition-settled k os = by-test (some-run k os) (decides-run k os)

@@ -1,3 +1,4 @@
+pub mod Automaton
 pub mod Judgement
 pub mod Linear
 pub mod Outcomes

@@ -3,10 +3,9 @@ use Prim.Native.Nat.{ℕ, _+_}
 use mathlib.Core.Bool.{Bool, cond}
 use mathlib.Core.List.{List}
 use lib.Dec.{ltb, eqb}
-use Rattle.rules.specs.declared.linear.Linear.{Linear}
-use Rattle.rules.specs.declared.rule.Rule.{Ghosts as RuleMeaning}
 use Rattle.rules.specs.declared.verdict.Verdict.{Verdict}
 use Rattle.rules.specs.declared.verdict.Verdict.the-variants.{Kept, Lost, Aside}
+use Rattle.rules.specs.Automaton.{Automaton}
 use Rattle.rules.specs.Outcomes.{SomeRun, some-run}
 use Rattle.rules.specs.Settled.{Settles}
 
@@ -22,14 +21,9 @@ linear-step k state made = cond (ltb state k) (cond made 0 (state + 1)) (cond (e
 abbrev pub linear-verdict : ℕ → ℕ → Verdict
 linear-verdict k state = cond (ltb state k) Kept (cond (eqb state k) Lost Aside)
 
--- The four functions that linear means, by its k.
-abbrev pub linear-meaning : RuleMeaning Linear
-linear-meaning = record {
-  states = λ rule. linear-states (rule .k);
-  first = λ rule. 0;
-  step = λ rule. linear-step (rule .k);
-  verdict = λ rule. linear-verdict (rule .k);
-}
+-- The four functions that linear k means; no pass has been missed at first.
+abbrev pub linear : ℕ → Automaton
+linear k = record { states = linear-states k; first = 0; step = linear-step k; verdict = linear-verdict k }
 
 -- The verdict by the definition: lost where some k consecutive passes are missed.
 abbrev pub linear-judges : ℕ → List Bool → Verdict

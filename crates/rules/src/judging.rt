@@ -3,6 +3,7 @@ ghost use mathlib.Core.Path.{_≡_};
 ghost use mathlib.Core.Bool.{Bool};
 ghost use mathlib.Core.List.{List};
 ghost use Rattle.rules.specs.declared.verdict.Verdict.{Verdict};
+ghost use Rattle.rules.specs.Automaton.{automaton};
 ghost use Rattle.rules.specs.Judgement.{judgement};
 use super::Rule;
 use super::Verdict;
@@ -13,7 +14,7 @@ pub trait Judging: Rule {
 
     // A theorem: the automaton and the definition agree, for every rule of the type and every list.
     fn judged()
-        ensures { λ _. ⌜ ((rule : Self) (outcomes : List Bool) → judgement Self·Rule rule outcomes ≡ judges rule outcomes) ⌝ };
+        ensures { λ _. ⌜ ((rule : Self) (outcomes : List Bool) → judgement (automaton Self·Rule rule) outcomes ≡ judges rule outcomes) ⌝ };
 }
 
 // The verdict on a plan whose passes came out as given: what the rule's definition makes of them.

@@ -2,7 +2,7 @@
 use mathlib.Core.Path.{_≡_, refl}
 use mathlib.Core.List.{List, [], _∷_, _++_}
 use Prim.Native.Nat.{ℕ}
-use Rattle.rules.specs.declared.rule.Rule.{Ghosts as RuleMeaning}
+use Rattle.rules.specs.Automaton.{Automaton}
 use Rattle.scales.specs.declared.scale.Scale.{Ghosts as ScaleMeaning}
 use Rattle.sums.specs.Chain.{good-with, bad-with, good-from, bad-from, after-pass, closing-from}
 
@@ -18,8 +18,8 @@ module _ {V A : Type 0} (scale : ScaleMeaning V) (up down : A → V) where
   bad-more [] g b p = refl
   bad-more (q ∷ qs) g b p = bad-more qs (good-with scale up down g q) (bad-with scale up down g b q) p
 
-  pub closing-more : {X : Type 0} (rules : RuleMeaning X) (rule : X) (total : ℕ → V) (ps : List (List A)) (p : List A)
-      → closing-from scale rules rule up down total (ps ++ p ∷ [])
-      ≡ after-pass scale rules rule up down p (closing-from scale rules rule up down total ps)
-  closing-more rules rule total [] p = refl
-  closing-more rules rule total (q ∷ qs) p = closing-more rules rule (after-pass scale rules rule up down q total) qs p
+  pub closing-more : (rule : Automaton) (total : ℕ → V) (ps : List (List A)) (p : List A)
+      → closing-from scale rule up down total (ps ++ p ∷ [])
+      ≡ after-pass scale rule up down p (closing-from scale rule up down total ps)
+  closing-more rule total [] p = refl
+  closing-more rule total (q ∷ qs) p = closing-more rule (after-pass scale rule up down q total) qs p

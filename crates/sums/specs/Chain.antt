@@ -3,9 +3,9 @@ use mathlib.Core.Bool.{Bool, true, false, cond}
 use mathlib.Core.List.{List, [], _∷_}
 use Prim.Native.Nat.{ℕ, zero, suc}
 use lib.Dec.{eqb}
-use Rattle.rules.specs.declared.rule.Rule.{Ghosts as RuleMeaning}
 use Rattle.rules.specs.declared.verdict.Verdict.{Verdict}
 use Rattle.rules.specs.declared.verdict.Verdict.the-variants.{Kept, Lost, Aside}
+use Rattle.rules.specs.Automaton.{Automaton}
 use Rattle.scales.specs.declared.scale.Scale.{Ghosts as ScaleMeaning}
 
 -- The place of a verdict among the answers.
@@ -47,15 +47,15 @@ module _ {V : Type 0} (scale : ScaleMeaning V) where
     abbrev pub bad : List A → V
     bad pass = bad-from (scale .one) (scale .zero) pass
 
-  module _ {X : Type 0} (rules : RuleMeaning X) (rule : X) where
+  module _ (rule : Automaton) where
     -- The totals before any pass: one at the first state, zero elsewhere.
     abbrev pub begun : ℕ → V
-    begun t = cond (eqb (rules .first rule) t) (scale .one) (scale .zero)
+    begun t = cond (eqb (rule .first) t) (scale .one) (scale .zero)
 
     -- The sum at state t with what state s adds: total × good if s steps to t when made, then total × bad if it does when missed.
     abbrev pub spread-to : (ℕ → V) → V → V → ℕ → ℕ → V → V
     spread-to total good bad s t sum =
-        add-if (eqb (rules .step rule s false) t) (add-if (eqb (rules .step rule s true) t) sum (scale .times (total s) good)) (scale .times (total s) bad)
+        add-if (eqb (rule .step s false) t) (add-if (eqb (rule .step s true) t) sum (scale .times (total s) good)) (scale .times (total s) bad)
 
     -- The new total at state t, from the states below n: the sum from zero, by rising state.
     abbrev pub reaching : (ℕ → V) → V → V → ℕ → ℕ → V
@@ -65,12 +65,12 @@ module _ {V : Type 0} (scale : ScaleMeaning V) where
     -- The sum of the totals of the states below n whose verdict has the place k, from zero by rising state.
     abbrev pub judged : (ℕ → V) → ℕ → ℕ → V
     judged total zero k = scale .zero
-    judged total (suc s) k = add-if (eqb (place-of (rules .verdict rule s)) k) (judged total s k) (total s)
+    judged total (suc s) k = add-if (eqb (place-of (rule .verdict s)) k) (judged total s k) (total s)
 
     module _ {A : Type 0} (up down : A → V) where
       -- The totals after one more pass.
       abbrev pub after-pass : List A → (ℕ → V) → ℕ → V
-      after-pass pass total t = reaching total (good up down pass) (bad up down pass) (rules .states rule) t
+      after-pass pass total t = reaching total (good up down pass) (bad up down pass) (rule .states) t
 
       -- The totals after the passes of a plan.
       abbrev pub closing-from : (ℕ → V) → List (List A) → ℕ → V
@@ -82,4 +82,4 @@ module _ {V : Type 0} (scale : ScaleMeaning V) where
 
       -- The answers: the sums of the closing totals over the kept, the lost and the aside states.
       abbrev pub answer : List (List A) → ℕ → V
-      answer plan k = judged (closing plan) (rules .states rule) k
+      answer plan k = judged (closing plan) (rule .states) k

@@ -1,25 +1,24 @@
 // The states of linear, and the theorem that they judge by runs of missed passes.
 //
 // State j below k is the present run of missed passes; state k is lost for good.
-ghost use Prim.Native.Nat.{ℕ};
+ghost use Prim.Native.Nat.{ℕ, _≤_};
 ghost use mathlib.Core.Bool.{Bool};
 ghost use mathlib.Core.List.{List};
-ghost use Rattle.rules.specs.declared.linear.Linear.{Linear};
 ghost use Rattle.rules.specs.Judgement.{judgement};
-ghost use Rattle.rules.specs.Linear.{linear-meaning, linear-judges, LinearSettles};
+ghost use Rattle.rules.specs.Linear.{linear, linear-judges, LinearSettles};
 use super::Linear;
 use crate::Judging;
 use crate::Rule;
 use crate::Verdict;
 
 pub impl Rule for Linear as LinearRule {
-    ghost states = { linear-meaning .states };
+    ghost states = { λ rule. linear (rule .k) .states };
 
-    ghost first = { linear-meaning .first };
+    ghost first = { λ rule. linear (rule .k) .first };
 
-    ghost step = { linear-meaning .step };
+    ghost step = { λ rule. linear (rule .k) .step };
 
-    ghost verdict = { linear-meaning .verdict };
+    ghost verdict = { λ rule. linear (rule .k) .verdict };
 
     fn states(&self) -> usize {
         self.k + 1
@@ -53,7 +52,7 @@ pub impl Rule for Linear as LinearRule {
 impl Linear {
     // A theorem: runs of missed passes settle what the automaton says of every list, and what the definition says.
     pub fn judged_by_runs()
-        ensures automaton { λ _. ⌜ ((rule : Linear) (outcomes : List Bool) → LinearSettles (rule .k) outcomes (judgement linear-meaning rule outcomes)) ⌝ }
+        ensures automaton { λ _. ⌜ ((k : ℕ) (outcomes : List Bool) → 1 ≤ k → LinearSettles k outcomes (judgement (linear k) outcomes)) ⌝ }
         ensures definition { λ _. ⌜ ((k : ℕ) (outcomes : List Bool) → LinearSettles k outcomes (linear-judges k outcomes)) ⌝ }
     {}
 }
