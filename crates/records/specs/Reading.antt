@@ -2,7 +2,7 @@
 use mathlib.Core.Path.{_≡_}
 use mathlib.Core.Bool.{cond}
 use mathlib.Core.List.{List}
-use Prim.Native.Nat.{ℕ, _+_, _/_}
+use Prim.Native.Nat.{ℕ, _+_, _*_, _/_, _≤_}
 use lib.Dec.{leb, ltb}
 use lib.ListN.{length, getD, take, drop}
 use Rattle.std.specs.declared.option.Option.{Option}
@@ -22,6 +22,16 @@ pub record Entry : Type 0 where
   pub kind : Kind
   pub place : ℕ
   pub body : List ℕ
+
+-- The body is as long as the kind has it, and an add has at most eight forecasts.
+abbrev pub fits : Kind → List ℕ → Type 0
+fits (kind.Add n) body = (length body ≡ 4 * n) × (n ≤ 8)
+fits kind.Settle body = length body ≡ 4
+fits kind.Drop body = length body ≡ 0
+fits kind.Evaluate body = length body ≡ 3
+
+abbrev pub Whole : Entry → Type 0
+Whole e = fits (e .kind) (e .body)
 
 -- What a record that is handed out says. The forecasts of an add are its body in fours.
 abbrev pub entry : Record → Entry

@@ -1,0 +1,3 @@
+pub mod OnlyText
+pub mod Pieces
+pub mod Turning
