@@ -32,7 +32,11 @@ pub fn respond(heap: Global, input: &[u8]) -> Result<String, AllocError>
 }
 
 // Answers the next record, and says whether there was one.
-fn answer_next<'a>(reader: &mut Reader<'a>, session: &mut Session, out: &mut String) -> Result<bool, AllocError>
+fn answer_next<'a>(
+    reader: &mut Reader<'a>,
+    session: &mut Session,
+    out: &mut String,
+) -> Result<bool, AllocError>
     ensures input { λ _. ⌜ now (now (reader .exit) .input) ≡ now (now (reader .entry) .input) ⌝ }
     ensures turn { λ r. ⌜ made r (λ went. Turn (now (now (reader .entry) .input)) went (now (reader .entry) .place) (now (reader .exit) .place) (passes (now (session .entry) .plan)) (passes (now (session .exit) .plan)) (string-bytes (now (out .entry))) (string-bytes (now (out .exit)))) ⌝ }
 {

@@ -45,7 +45,14 @@ pub(super) fn put_end(parts: usize, passes: usize, out: &mut String) -> Result<(
 }
 
 // An answer line, of values in a plan of so many parts.
-pub(super) fn put_answer<V: Printed>(place: usize, parts: usize, kept: &V, lost: &V, aside: &V, out: &mut String) -> Result<(), AllocError>
+pub(super) fn put_answer<V: Printed>(
+    place: usize,
+    parts: usize,
+    kept: &V,
+    lost: &V,
+    aside: &V,
+    out: &mut String,
+) -> Result<(), AllocError>
     ensures { λ r. ⌜ made r (λ _. string-bytes (now (out .exit)) ≡ string-bytes (now (out .entry)) ++ answer-line place (printed (now (kept .entry)) parts) (printed (now (lost .entry)) parts) (printed (now (aside .entry)) parts)) ⌝ }
 {
     put_head(place, out)?;

@@ -99,7 +99,8 @@ impl Session {
             0 => false,
             _ => return Err(Refusal::UnknownByte),
         };
-        self.plan.settle(two(body, 0) as usize, body[2] as usize, up)
+        self.plan
+            .settle(two(body, 0) as usize, body[2] as usize, up)
     }
 
     // Evaluates the plan as a record asks, and prints the line.
@@ -115,7 +116,12 @@ impl Session {
     }
 
     // By the rule that is asked for.
-    fn evaluate_by(&mut self, place: usize, asked: Question, out: &mut String) -> Result<(), AllocError>
+    fn evaluate_by(
+        &mut self,
+        place: usize,
+        asked: Question,
+        out: &mut String,
+    ) -> Result<(), AllocError>
         ensures text { λ r. ⌜ made r (λ _. string-bytes (now (out .exit)) ≡ string-bytes (now (out .entry)) ++ rule-line place (passes (now (self .entry) .plan)) (asked .rule) (asked .k) (asked .scale)) ⌝ }
         ensures same { λ _. ⌜ now (self .exit) .plan ≡ now (self .entry) .plan ⌝ }
     {
@@ -128,12 +134,19 @@ impl Session {
     }
 
     // On the scale that is asked for.
-    fn evaluate_on<R: Rule>(&mut self, place: usize, rule: &R, scale: ScaleKind, out: &mut String) -> Result<(), AllocError>
+    fn evaluate_on<R: Rule>(
+        &mut self,
+        place: usize,
+        rule: &R,
+        scale: ScaleKind,
+        out: &mut String,
+    ) -> Result<(), AllocError>
         ensures text { λ r. ⌜ made r (λ _. string-bytes (now (out .exit)) ≡ string-bytes (now (out .entry)) ++ scale-line place (passes (now (self .entry) .plan)) (automaton R·Rule (now (rule .entry))) scale) ⌝ }
         ensures same { λ _. ⌜ now (self .exit) .plan ≡ now (self .entry) .plan ⌝ }
     {
         match scale {
-            ScaleKind::Count => self.counts.put_evaluation(&self.plan, rule, &Counting, place, out),
+            ScaleKind::Count => self.counts
+                .put_evaluation(&self.plan, rule, &Counting, place, out),
         }
     }
 }

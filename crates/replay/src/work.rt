@@ -45,10 +45,26 @@ impl<V: Scale + Clone, const PLACES: usize> Lists<V, PLACES> {
 
 impl<V: Printed + Scale, const PLACES: usize> Lists<V, PLACES> {
     // Evaluates the plan, and prints the answers or why there are none.
-    pub(super) fn put_evaluation<R: Rule, W: Weigher<Value = V>>(&mut self, plan: &Plan, rule: &R, weigher: &W, place: usize, out: &mut String) -> Result<(), AllocError>
+    pub(super) fn put_evaluation<R: Rule, W: Weigher<Value = V>>(
+        &mut self,
+        plan: &Plan,
+        rule: &R,
+        weigher: &W,
+        place: usize,
+        out: &mut String,
+    ) -> Result<(), AllocError>
         ensures { λ r. ⌜ made r (λ _. string-bytes (now (out .exit)) ≡ string-bytes (now (out .entry)) ++ evaluation-line V·Scale (automaton R·Rule (now (rule .entry))) W·Weigher (now (weigher .entry)) (V·Printed .printed) PLACES (passes (now (plan .entry))) place) ⌝ }
     {
-        put_valued(plan, rule, weigher, &mut self.totals, &mut self.next, &mut self.answer, place, out)
+        put_valued(
+            plan,
+            rule,
+            weigher,
+            &mut self.totals,
+            &mut self.next,
+            &mut self.answer,
+            place,
+            out,
+        )
     }
 }
 
