@@ -1,3 +1,4 @@
 pub mod OnlyText
 pub mod Pieces
+pub mod SomeText
 pub mod Turning

@@ -25,3 +25,7 @@ pub data Says (input : List ℕ) : ℕ → Model → List ℕ → Type 0 where
 -- An input has at most one text.
 abbrev pub OneText : Type 0
 OneText = (input : List ℕ) (place : ℕ) (plan : Model) (one other : List ℕ) → Says input place plan one → Says input place plan other → one ≡ other
+
+-- An input has a text.
+abbrev pub SomeText : Type 0
+SomeText = (input : List ℕ) (place : ℕ) (plan : Model) → (text : List ℕ) × Says input place plan text

@@ -4,7 +4,7 @@ ghost use mathlib.Core.List.{[]};
 ghost use Rattle.std.specs.Of.String.{string-bytes};
 ghost use Rattle.std.specs.Vec.{made};
 ghost use Rattle.plans.specs.Passes.{passes};
-ghost use Rattle.replay.specs.Says.{Says, OneText};
+ghost use Rattle.replay.specs.Says.{Says, SomeText, OneText};
 ghost use Rattle.replay.specs.Turns.{Turn};
 use crate::lines::put_refusal;
 use crate::session::Session;
@@ -51,7 +51,8 @@ fn answer_next<'a>(
     Ok(true)
 }
 
-// A theorem: an input is answered with one text.
+// A theorem: there is a text for every input, and only one.
 pub fn one_text()
-    ensures { λ _. ⌜ OneText ⌝ }
+    ensures some { λ _. ⌜ SomeText ⌝ }
+    ensures one { λ _. ⌜ OneText ⌝ }
 {}
