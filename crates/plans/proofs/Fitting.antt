@@ -1,4 +1,4 @@
--- What holds of the passes of every plan: no forecast above one, a part in each pass, at most 512 parts.
+-- Every plan keeps the limits.
 use Prim.Native.Nat.{ℕ, zero, suc, _+_, _-_, _≤_, _<_}
 use mathlib.Core.List.{List, [], _∷_}
 use mathlib.Core.Bool.{true}
@@ -9,12 +9,12 @@ use Rattle.std.proofs.shelf.Lists.{getD-take, getD-drop}
 use Rattle.plans.specs.declared.part.Part.{Part}
 use Rattle.plans.specs.declared.plan.Plan.{Plan}
 use Rattle.plans.specs.Cuts.{cut, rising, last-end}
-use Rattle.plans.specs.Fits.{All, Fits}
+use Rattle.plans.specs.Limits.{All, PassLength, AtMostOne, WithinLimits}
 use Rattle.plans.specs.Model.{size}
-use Rattle.plans.specs.Parts.{one, open-part}
+use Rattle.plans.specs.Parts.{open-part}
 use Rattle.plans.specs.Passes.{passes}
 use Rattle.plans.proofs.Cutting.{rising-parts, last-end-above, length-piece}
-use Rattle.plans.proofs.Shape.{count-is-length, used-is-size, count-below-used, last-end-within}
+use Rattle.plans.proofs.Shape.{used-is-size, last-end-within}
 
 all-from-places : {A : Type 0} (P : A → Type 0) (d : A) (xs : List A) → ((k : ℕ) → k < length xs → P (getD xs k d)) → All P xs
 all-from-places P d [] h = tt
@@ -33,15 +33,24 @@ all-cut P d s (e ∷ es) xs r w h =
       all-cut P d e es xs (up .2) w h,
     )
 
+lengths-cut : (s : ℕ) (es : List ℕ) (xs : List Part) → rising s es ≡ true → last-end s es ≤ length xs → All PassLength (cut s es xs)
+lengths-cut s [] xs r w = tt
+lengths-cut s (e ∷ es) xs r w =
+    let up = rising-parts s e es r in
+    let above = last-end-above e es (up .2) in
+    let n = length-piece s e xs (omega arith) in
+    ((omega arith, omega arith), lengths-cut e es xs (up .2) w)
+
 module _ (m : Plan) where
-  pub fits : Fits (passes m)
-  unfolding passes
-  fits =
-      all-cut (λ (x : Part). x .forecast ≤ one) (open-part 0) 0 (take (m .count) (m .table .ends)) (m .table .parts) (m .steps) (last-end-within m)
-      (λ k l. m .fits k (open-part 0) (omega (arith, m .full)))
-
-  pub passes-few : length (passes m) ≤ size (passes m)
-  passes-few = omega (arith, count-is-length m, used-is-size m, count-below-used m)
-
   pub parts-few : size (passes m) ≤ 512
   parts-few = omega (arith, used-is-size m, m .room)
+
+  pub within-limits : WithinLimits (passes m)
+  unfolding passes
+  within-limits =
+      let es = take (m .count) (m .table .ends) in
+      record {
+        parts = parts-few;
+        lengths = lengths-cut 0 es (m .table .parts) (m .steps) (last-end-within m);
+        forecasts = all-cut AtMostOne (open-part 0) 0 es (m .table .parts) (m .steps) (last-end-within m) (λ k l. m .fits k (open-part 0) (omega (arith, m .full)));
+      }

@@ -3,7 +3,6 @@ pub mod Answering
 pub mod Changing
 pub mod Cutting
 pub mod Fitting
-pub mod Histories
 pub mod Lawful
 pub mod Laying
 pub mod Placing

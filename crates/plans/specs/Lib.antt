@@ -1,7 +1,7 @@
 pub mod Cuts
-pub mod Fits
 pub mod Found
 pub mod Laws
+pub mod Limits
 pub mod Lists
 pub mod Model
 pub mod Parts

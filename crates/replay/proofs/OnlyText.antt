@@ -11,7 +11,7 @@ use Rattle.std.specs.declared.result.Result.the-variants.{Ok, Err}
 use Rattle.refusals.specs.declared.Refusal.{Refusal}
 use Rattle.plans.specs.Model.{Model}
 use Rattle.records.specs.Reading.{Entry}
-use Rattle.replay.specs.Answers.{line-of, plan-after, closing-line}
+use Rattle.replay.specs.Answers.{record-line, record-plan, closing-line}
 use Rattle.replay.specs.Lines.{refusal-line}
 use Rattle.replay.specs.Says.{Says, ended, stopped, answered}
 
@@ -44,5 +44,5 @@ only-text (answered {entry = x} f h) (ended e) = absurd (none-or-read _ x e f)
 only-text (answered {entry = x} f h) (stopped {reason = r} g) = absurd (stopped-or-read _ r x g f)
 only-text {input} (answered {place = p} {plan = m} {entry = x} f h) (answered {entry = y} {more = more} g k) =
     let same = same-entry _ x y f g in
-    let rest = only-text h (subst (λ (z : Entry). Says input (p + 1 + length (z .body)) (plan-after z m) more) (sym same) k) in
-    λ i. line-of (same i) m ++ rest i
+    let rest = only-text h (subst (λ (z : Entry). Says input (p + 1 + length (z .body)) (record-plan z m) more) (sym same) k) in
+    λ i. record-line (same i) m ++ rest i

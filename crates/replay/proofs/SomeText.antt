@@ -14,7 +14,7 @@ use Rattle.refusals.specs.declared.Refusal.{Refusal}
 use Rattle.plans.specs.Model.{Model}
 use Rattle.records.specs.Reading.{Entry, next-at}
 use Rattle.records.proofs.Framing.{told-within}
-use Rattle.replay.specs.Answers.{line-of, plan-after, closing-line}
+use Rattle.replay.specs.Answers.{record-line, record-plan, closing-line}
 use Rattle.replay.specs.Lines.{refusal-line}
 use Rattle.replay.specs.Says.{Says, ended, stopped, answered}
 
@@ -24,8 +24,8 @@ text-from : (input : List ℕ) (place : ℕ) (plan : Model) → ((q : ℕ) (m : 
 text-from input place plan later None e = (closing-line plan, ended e)
 text-from input place plan later (Some (Err reason)) e = (refusal-line place reason ++ closing-line plan, stopped e)
 text-from input place plan later (Some (Ok entry)) e =
-    let rest = later (place + 1 + length (entry .body)) (plan-after entry plan) (omega arith) (told-within input place (Ok entry) e) in
-    (line-of entry plan ++ rest .0, answered e (rest .1))
+    let rest = later (place + 1 + length (entry .body)) (record-plan entry plan) (omega arith) (told-within input place (Ok entry) e) in
+    (record-line entry plan ++ rest .0, answered e (rest .1))
 
 text-within : (turns : ℕ) (input : List ℕ) (place : ℕ) (plan : Model) → length input ≤ place + turns → (text : List ℕ) × Says input place plan text
 text-within zero input place plan h =

@@ -12,7 +12,7 @@ use Rattle.refusals.specs.declared.Refusal.{Refusal}
 use Rattle.plans.specs.Model.{Model}
 use Rattle.records.specs.Reading.{Entry, next-at, behind, place-after}
 use Rattle.records.proofs.Framing.{none-at-end, told-within}
-use Rattle.replay.specs.Answers.{line-of, plan-after, closing-line}
+use Rattle.replay.specs.Answers.{record-line, record-plan, closing-line}
 use Rattle.replay.specs.Lines.{refusal-line}
 use Rattle.replay.specs.Says.{Says, ended, stopped, answered}
 use Rattle.replay.specs.Turns.{SoFar, Turn}
@@ -20,14 +20,14 @@ use Rattle.replay.proofs.OnlyText.{only-text}
 
 module _ (input : List ℕ) (p q : ℕ) (plan : Model) (out : List ℕ) (goes : q ≡ place-after input p) where
   pub turn-answered : (entry : Entry) (new-plan : Model) (new-out : List ℕ) → Some (Ok entry) ≡ next-at input p
-      → new-plan ≡ plan-after entry plan → new-out ≡ out ++ line-of entry plan → Turn input true p q plan new-plan out new-out
+      → new-plan ≡ record-plan entry plan → new-out ≡ out ++ record-line entry plan → Turn input true p q plan new-plan out new-out
   turn-answered entry new-plan new-out told planned put =
       let there : q ≡ p + 1 + length (entry .body) = goes ∙ ap (behind p (length input)) (sym told) in
       record {
         so-far = λ so-far more h.
-            let rest : Says input (p + 1 + length (entry .body)) (plan-after entry plan) more =
-            subst (λ k. Says input k (plan-after entry plan) more) there (subst (λ m. Says input q m more) planned h) in
-            subst (Says input 0 []) (sym (append-assoc out (line-of entry plan) more) ∙ ap (λ l. l ++ more) (sym put)) (so-far _ (answered (sym told) rest));
+            let rest : Says input (p + 1 + length (entry .body)) (record-plan entry plan) more =
+            subst (λ k. Says input k (record-plan entry plan) more) there (subst (λ m. Says input q m more) planned h) in
+            subst (Says input 0 []) (sym (append-assoc out (record-line entry plan) more) ∙ ap (λ l. l ++ more) (sym put)) (so-far _ (answered (sym told) rest));
         within = λ _. told-within input p (Ok entry) (sym told);
         onward = λ _. omega arith;
         complete = λ no. absurd (true≢false no);

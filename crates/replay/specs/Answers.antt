@@ -4,12 +4,10 @@ use mathlib.Core.List.{List, []}
 use Prim.Native.Nat.{ℕ}
 use lib.Dec.{eqb, leb}
 use lib.ListN.{length}
-use Rattle.std.specs.Written.{decimal}
 use Rattle.std.specs.declared.result.Result.{Result}
 use Rattle.std.specs.declared.result.Result.the-variants.{Ok, Err}
 use Rattle.refusals.specs.declared.Refusal.{Refusal}
 use Rattle.refusals.specs.declared.Refusal.the-variants.{BadRule, UnknownByte}
-use Rattle.scales.specs.declared.count.Count.{Count}
 use Rattle.scales.specs.Counts.{counts, counting}
 use Rattle.rules.specs.Automaton.{Automaton}
 use Rattle.rules.specs.Linear.{linear}
@@ -27,6 +25,7 @@ use Rattle.replay.specs.Evaluations.{evaluation-line}
 use Rattle.replay.specs.Fields.{byte-at, two-at, forecasts-of}
 use Rattle.replay.specs.Lines.{refusal-line, end-line}
 use Rattle.replay.specs.Questions.{question-of}
+use Rattle.replay.specs.Values.{count-text}
 
 -- What a settle record asks: a pass, a part, and 1 for up or 0 for down.
 abbrev pub settling-of : List ℕ → Result Change Refusal
@@ -48,10 +47,6 @@ change-plan (Err reason) plan = plan
 abbrev pub reply-line : ℕ → Result Unit Refusal → List ℕ
 reply-line place (Ok done) = []
 reply-line place (Err reason) = refusal-line place reason
-
--- How a count is printed, whatever the number of parts.
-abbrev pub count-text : Count → ℕ → List ℕ
-count-text count parts = decimal (count .number)
 
 -- The line of an evaluation by a rule, on the scale that is asked for.
 abbrev pub scale-line : ℕ → Model → Automaton → ScaleKind → List ℕ
@@ -79,11 +74,11 @@ plan-by kind.Settle body plan = change-plan (settling-of body) plan
 plan-by kind.Drop body plan = after model.Drop plan
 plan-by kind.Evaluate body plan = plan
 
-abbrev pub line-of : Entry → Model → List ℕ
-line-of entry plan = line-by (entry .kind) (entry .place) (entry .body) plan
+abbrev pub record-line : Entry → Model → List ℕ
+record-line entry plan = line-by (entry .kind) (entry .place) (entry .body) plan
 
-abbrev pub plan-after : Entry → Model → Model
-plan-after entry plan = plan-by (entry .kind) (entry .body) plan
+abbrev pub record-plan : Entry → Model → Model
+record-plan entry plan = plan-by (entry .kind) (entry .body) plan
 
 -- The last line.
 abbrev pub closing-line : Model → List ℕ

@@ -8,7 +8,7 @@ use Rattle.std.specs.declared.result.Result.the-variants.{Ok, Err}
 use Rattle.refusals.specs.declared.Refusal.{Refusal}
 use Rattle.plans.specs.Model.{Model}
 use Rattle.records.specs.Reading.{Entry, next-at}
-use Rattle.replay.specs.Answers.{line-of, plan-after, closing-line}
+use Rattle.replay.specs.Answers.{record-line, record-plan, closing-line}
 use Rattle.replay.specs.Lines.{refusal-line}
 
 pub data Says (input : List ℕ) : ℕ → Model → List ℕ → Type 0 where
@@ -19,8 +19,8 @@ pub data Says (input : List ℕ) : ℕ → Model → List ℕ → Type 0 where
       → Says input place plan (refusal-line place reason ++ closing-line plan)
   -- A record prints its line, and the text goes on behind it, with the plan that it leaves.
   answered : {place : ℕ} {plan : Model} {entry : Entry} {more : List ℕ} → next-at input place ≡ Some (Ok entry)
-      → Says input (place + 1 + length (entry .body)) (plan-after entry plan) more
-      → Says input place plan (line-of entry plan ++ more)
+      → Says input (place + 1 + length (entry .body)) (record-plan entry plan) more
+      → Says input place plan (record-line entry plan ++ more)
 
 -- An input has at most one text.
 abbrev pub OneText : Type 0

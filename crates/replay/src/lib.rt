@@ -14,6 +14,7 @@ use std::alloc::Global;
 
 mod fields;
 mod lines;
+mod printed;
 mod question;
 mod session;
 mod work;

@@ -1,23 +1,23 @@
 // A plan, and the lists that it is evaluated in, between one record and the next.
 ghost use mathlib.Core.Path.{_≡_};
-ghost use mathlib.Core.List.{[], _++_};
+ghost use mathlib.Core.List.{[]};
 ghost use lib.ListN.{length};
 ghost use Prim.Native.Nat.{_≤_};
-ghost use Rattle.std.specs.Of.String.{string-bytes};
 ghost use Rattle.std.specs.Vec.{made};
-ghost use Rattle.plans.specs.Model.{size, reply, after, Add, Drop};
+ghost use Rattle.plans.specs.Model.{reply, after, Add};
 ghost use Rattle.plans.specs.Passes.{passes};
 ghost use Rattle.records.specs.Reading.{entry, Whole};
 ghost use Rattle.rules.specs.Automaton.{automaton};
-ghost use Rattle.replay.specs.Answers.{line-of, plan-after, closing-line, change-reply, change-plan, reply-line, settling-of, scale-line, rule-line, question-line};
+ghost use Rattle.replay.specs.Puts.{Puts};
+ghost use Rattle.replay.specs.Answers.{record-line, record-plan, closing-line, change-reply, change-plan, reply-line, settling-of, scale-line, rule-line, question-line};
 ghost use Rattle.replay.specs.Fields.{forecasts-of};
 ghost use Rattle.replay.specs.Questions.{question-of};
 use crate::fields::LONGEST;
 use crate::fields::forecasts;
 use crate::fields::two;
-use crate::lines::CountPrinted;
 use crate::lines::put_end;
 use crate::lines::put_refusal;
+use crate::printed::CountPrinted;
 use crate::question::Question;
 use crate::question::RuleKind;
 use crate::question::ScaleKind;
@@ -59,8 +59,8 @@ impl Session {
     // Does what a record asks, and prints its line, if it has one.
     pub(super) fn answer(&mut self, record: Record<'_>, out: &mut String) -> Result<(), AllocError>
         requires { ⌜ Whole (entry «record») ⌝ }
-        ensures text { λ r. ⌜ made r (λ _. string-bytes (now (out .exit)) ≡ string-bytes (now (out .entry)) ++ line-of (entry («record» .entry)) (passes (now (self .entry) .plan))) ⌝ }
-        ensures after { λ _. ⌜ passes (now (self .exit) .plan) ≡ plan-after (entry («record» .entry)) (passes (now (self .entry) .plan)) ⌝ }
+        ensures text { λ r. ⌜ Puts r (now (out .entry)) (now (out .exit)) (record-line (entry («record» .entry)) (passes (now (self .entry) .plan))) ⌝ }
+        ensures after { λ _. ⌜ passes (now (self .exit) .plan) ≡ record-plan (entry («record» .entry)) (passes (now (self .entry) .plan)) ⌝ }
     {
         match record {
             Record::Add { place, body } => put_reply(place, self.add(body), out),
@@ -72,7 +72,7 @@ impl Session {
 
     // Prints the last line.
     pub(super) fn close(&self, out: &mut String) -> Result<(), AllocError>
-        ensures { λ r. ⌜ made r (λ _. string-bytes (now (out .exit)) ≡ string-bytes (now (out .entry)) ++ closing-line (passes (now (self .entry) .plan))) ⌝ }
+        ensures { λ r. ⌜ Puts r (now (out .entry)) (now (out .exit)) (closing-line (passes (now (self .entry) .plan))) ⌝ }
     {
         put_end(self.plan.parts(), self.plan.passes(), out)
     }
@@ -106,7 +106,7 @@ impl Session {
     // Evaluates the plan as a record asks, and prints the line.
     fn evaluate(&mut self, place: usize, body: &[u8], out: &mut String) -> Result<(), AllocError>
         requires { ⌜ length (now body) ≡ 3 ⌝ }
-        ensures text { λ r. ⌜ made r (λ _. string-bytes (now (out .exit)) ≡ string-bytes (now (out .entry)) ++ question-line place (passes (now (self .entry) .plan)) (question-of (now (body .entry)))) ⌝ }
+        ensures text { λ r. ⌜ Puts r (now (out .entry)) (now (out .exit)) (question-line place (passes (now (self .entry) .plan)) (question-of (now (body .entry)))) ⌝ }
         ensures same { λ _. ⌜ now (self .exit) .plan ≡ now (self .entry) .plan ⌝ }
     {
         match Question::read(body) {
@@ -122,7 +122,7 @@ impl Session {
         asked: Question,
         out: &mut String,
     ) -> Result<(), AllocError>
-        ensures text { λ r. ⌜ made r (λ _. string-bytes (now (out .exit)) ≡ string-bytes (now (out .entry)) ++ rule-line place (passes (now (self .entry) .plan)) (asked .rule) (asked .k) (asked .scale)) ⌝ }
+        ensures text { λ r. ⌜ Puts r (now (out .entry)) (now (out .exit)) (rule-line place (passes (now (self .entry) .plan)) (asked .rule) (asked .k) (asked .scale)) ⌝ }
         ensures same { λ _. ⌜ now (self .exit) .plan ≡ now (self .entry) .plan ⌝ }
     {
         match asked.rule {
@@ -141,7 +141,7 @@ impl Session {
         scale: ScaleKind,
         out: &mut String,
     ) -> Result<(), AllocError>
-        ensures text { λ r. ⌜ made r (λ _. string-bytes (now (out .exit)) ≡ string-bytes (now (out .entry)) ++ scale-line place (passes (now (self .entry) .plan)) (automaton R·Rule (now (rule .entry))) scale) ⌝ }
+        ensures text { λ r. ⌜ Puts r (now (out .entry)) (now (out .exit)) (scale-line place (passes (now (self .entry) .plan)) (automaton R·Rule (now (rule .entry))) scale) ⌝ }
         ensures same { λ _. ⌜ now (self .exit) .plan ≡ now (self .entry) .plan ⌝ }
     {
         match scale {
@@ -153,7 +153,7 @@ impl Session {
 
 // A call that is accepted prints nothing.
 fn put_reply(place: usize, reply: Result<(), Refusal>, out: &mut String) -> Result<(), AllocError>
-    ensures { λ r. ⌜ made r (λ _. string-bytes (now (out .exit)) ≡ string-bytes (now (out .entry)) ++ reply-line place reply) ⌝ }
+    ensures { λ r. ⌜ Puts r (now (out .entry)) (now (out .exit)) (reply-line place reply) ⌝ }
 {
     match reply {
         Ok(()) => Ok(()),

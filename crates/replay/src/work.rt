@@ -1,16 +1,14 @@
 // The lists that evaluations on one scale work in, and the line that each evaluation prints.
 ghost use mathlib.Core.Path.{_≡_};
-ghost use mathlib.Core.List.{_++_};
 ghost use lib.ListN.{length};
-ghost use Rattle.std.specs.Of.String.{string-bytes};
 ghost use Rattle.std.specs.Of.Vec.{vec-len};
-ghost use Rattle.std.specs.Vec.{made};
 ghost use Rattle.plans.specs.Passes.{passes};
 ghost use Rattle.rules.specs.Automaton.{automaton};
+ghost use Rattle.replay.specs.Puts.{Puts};
 ghost use Rattle.replay.specs.Evaluations.{evaluation-line};
-use crate::lines::Printed;
 use crate::lines::put_answer;
 use crate::lines::put_refusal;
+use crate::printed::Printed;
 use evaluation::evaluate;
 use plans::Plan;
 use rules::Rule;
@@ -53,7 +51,7 @@ impl<V: Printed + Scale, const PLACES: usize> Lists<V, PLACES> {
         place: usize,
         out: &mut String,
     ) -> Result<(), AllocError>
-        ensures { λ r. ⌜ made r (λ _. string-bytes (now (out .exit)) ≡ string-bytes (now (out .entry)) ++ evaluation-line V·Scale (automaton R·Rule (now (rule .entry))) W·Weigher (now (weigher .entry)) (V·Printed .printed) PLACES (passes (now (plan .entry))) place) ⌝ }
+        ensures { λ r. ⌜ Puts r (now (out .entry)) (now (out .exit)) (evaluation-line V·Scale (automaton R·Rule (now (rule .entry))) W·Weigher (now (weigher .entry)) (V·Printed .printed) PLACES (passes (now (plan .entry))) place) ⌝ }
     {
         put_valued(
             plan,
@@ -81,7 +79,7 @@ fn put_valued<R: Rule, W: Weigher>(
 where
     W::Value: Printed,
     requires { ⌜ length (now next) ≡ length (now totals) ⌝ ∗ ⌜ length (now answer) ≡ 3 ⌝ }
-    ensures { λ r. ⌜ made r (λ _. string-bytes (now (out .exit)) ≡ string-bytes (now (out .entry)) ++ evaluation-line Value·Scale (automaton R·Rule (now (rule .entry))) W·Weigher (now (weigher .entry)) (Value·Printed .printed) (length (now (totals .entry))) (passes (now (plan .entry))) place) ⌝ }
+    ensures { λ r. ⌜ Puts r (now (out .entry)) (now (out .exit)) (evaluation-line Value·Scale (automaton R·Rule (now (rule .entry))) W·Weigher (now (weigher .entry)) (Value·Printed .printed) (length (now (totals .entry))) (passes (now (plan .entry))) place) ⌝ }
 {
     match evaluate(plan, rule, weigher, totals, next, answer) {
         Ok(_) => put_answer(place, plan.parts(), &answer[0], &answer[1], &answer[2], out),
