@@ -30,6 +30,7 @@ fits kind.Settle body = length body ≡ 4
 fits kind.Drop body = length body ≡ 0
 fits kind.Evaluate body = length body ≡ 3
 
+-- A record whose body is whole.
 abbrev pub Whole : Entry → Type 0
 Whole e = fits (e .kind) (e .body)
 
@@ -40,6 +41,7 @@ entry (as-record.Settle p b) = record { kind = kind.Settle; place = p; body = b 
 entry (as-record.Drop p b) = record { kind = kind.Drop; place = p; body = b .now }
 entry (as-record.Evaluate p b) = record { kind = kind.Evaluate; place = p; body = b .now }
 
+-- What a reply of the reader says.
 abbrev pub handed : Result Record Refusal → Result Entry Refusal
 handed (Ok r) = Ok (entry r)
 handed (Err e) = Err e
@@ -60,6 +62,7 @@ reading input place = framed input place (kind-of (getD input place 0))
 abbrev pub next-at : List ℕ → ℕ → Option (Result Entry Refusal)
 next-at input place = cond (ltb place (length input)) (Some (reading input place)) None
 
+-- What the reader replies, by what it says; none at the end.
 abbrev pub told : Option (Result Record Refusal) → Option (Result Entry Refusal)
 told None = None
 told (Some r) = Some (handed r)
@@ -70,5 +73,6 @@ behind place end None = place
 behind place end (Some (Ok e)) = place + 1 + length (e .body)
 behind place end (Some (Err r)) = end
 
+-- Where a reader stands after the record at a place.
 abbrev pub place-after : List ℕ → ℕ → ℕ
 place-after input place = behind place (length input) (next-at input place)

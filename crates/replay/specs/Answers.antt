@@ -56,6 +56,7 @@ scale-line place plan rule scale-kind.Count = evaluation-line counts rule counti
 abbrev pub rule-line : ℕ → Model → RuleKind → ℕ → ScaleKind → List ℕ
 rule-line place plan rule-kind.Linear k scale = cond (leb 1 k && leb k 63) (scale-line place plan (linear k) scale) (refusal-line place BadRule)
 
+-- The line of an evaluation record, which is declined where it names no known rule or scale.
 abbrev pub question-line : ℕ → Model → Result Question Refusal → List ℕ
 question-line place plan (Ok asked) = rule-line place plan (asked .rule) (asked .k) (asked .scale)
 question-line place plan (Err reason) = refusal-line place reason
@@ -74,9 +75,11 @@ plan-by kind.Settle body plan = change-plan (settling-of body) plan
 plan-by kind.Drop body plan = after model.Drop plan
 plan-by kind.Evaluate body plan = plan
 
+-- The line that a record prints on a plan.
 abbrev pub record-line : Entry → Model → List ℕ
 record-line entry plan = line-by (entry .kind) (entry .place) (entry .body) plan
 
+-- The plan that a record leaves of a plan.
 abbrev pub record-plan : Entry → Model → Model
 record-plan entry plan = plan-by (entry .kind) (entry .body) plan
 

@@ -23,5 +23,6 @@ module _ {V Y : Type 0} (scale : ScaleMeaning V) (rule : Automaton) (weighers : 
   line-by None = answer-line place (answer-text 0) (answer-text 1) (answer-text 2)
   line-by (Some reason) = refusal-line place reason
 
+  -- The line: the first reason to decline, if there is one, otherwise the answers.
   abbrev pub evaluation-line : List ℕ
   evaluation-line = line-by (refusal (rule .states) (size plan) (weighers .limit) places places 3)

@@ -31,5 +31,6 @@ question (Some rule) k None = Err UnknownByte
 question None k (Some scale) = Err UnknownByte
 question None k None = Err UnknownByte
 
+-- The bytes of the body are the rule, its k and the scale.
 abbrev pub question-of : List ℕ → Result Question Refusal
 question-of body = question (rule-of (byte-at body 0)) (byte-at body 1) (scale-of (byte-at body 2))

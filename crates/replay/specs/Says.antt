@@ -11,6 +11,7 @@ use Rattle.records.specs.Reading.{Entry, next-at}
 use Rattle.replay.specs.Answers.{record-line, record-plan, closing-line}
 use Rattle.replay.specs.Lines.{refusal-line}
 
+-- From a place of the input on, with the plan as it is there, this is the text.
 pub data Says (input : List ℕ) : ℕ → Model → List ℕ → Type 0 where
   -- At the end of the input there is the last line.
   ended : {place : ℕ} {plan : Model} → next-at input place ≡ None → Says input place plan (closing-line plan)

@@ -77,6 +77,7 @@ module _ {V : Type 0} (scale : ScaleMeaning V) where
       closing-from total [] = total
       closing-from total (p ∷ ps) = closing-from (after-pass p total) ps
 
+      -- The closing totals, from those before any pass.
       abbrev pub closing : List (List A) → ℕ → V
       closing plan = closing-from begun plan
 

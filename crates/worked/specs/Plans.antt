@@ -17,6 +17,7 @@ pub record Row : Type 0 where
   pub lost : ℕ
   pub aside : ℕ
 
+-- A row by its calls, its k and its three numbers.
 abbrev pub row : List Change → ℕ → ℕ → ℕ → ℕ → Row
 row calls k kept lost aside = record { calls = calls; k = k; kept = kept; lost = lost; aside = aside }
 
@@ -28,6 +29,7 @@ single = Add (0 ∷ [])
 abbrev pub double : Change
 double = Add (0 ∷ 0 ∷ [])
 
+-- The plans: none, single passes, double passes, a part settled down, a second settle and drops that are declined.
 abbrev pub table : List Row
 table =
     row [] 2 1 0 0
@@ -44,6 +46,7 @@ table =
 abbrev pub gives : Row → ℕ → ℕ → Bool
 gives r place n = eqb (answer-of counts (linear (r .k)) counting (record {}) (plan-after (r .calls)) place .number) n
 
+-- The three numbers of every row are what the definitions give.
 abbrev pub right : List Row → Bool
 right [] = true
 right (r ∷ rs) = gives r 0 (r .kept) && (gives r 1 (r .lost) && (gives r 2 (r .aside) && right rs))

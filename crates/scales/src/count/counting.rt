@@ -28,6 +28,7 @@ pub impl Weigher for Counting as CountingWeigher {
         Count::one()
     }
 
+    // Either way alike.
     fn down(&self, forecast: u32) -> Count {
         self.up(forecast)
     }
