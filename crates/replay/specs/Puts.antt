@@ -7,6 +7,6 @@ use Rattle.std.specs.Vec.{made}
 use Rattle.std.specs.declared.result.Result.{Result}
 use Rattle.std.specs.declared.string.String.{String}
 
--- Unless memory runs out, the text stands behind what was printed before, and nothing else changed.
+-- Unless memory runs out, what is printed now is what was printed before, and then the text.
 abbrev pub Puts : {E Z : Type 0} → Result Unit E → String Z → String Z → List ℕ → Type 0
 Puts reply before now text = made reply (λ _. string-bytes now ≡ string-bytes before ++ text)

@@ -52,6 +52,19 @@ fn worked_counts() -> Result<(), Fail> {
     check_eq(counted(&plan, 1)?, [1, 3, 0])
 }
 
+// Lists of n outcomes without two misses in a row number the Fibonacci number n + 2.
+#[test]
+fn fibonacci() -> Result<(), Fail> {
+    let mut plan = Plan::make();
+    for _ in 0..63 {
+        plan.add(&[0])?;
+    }
+    check_eq(
+        counted(&plan, 2)?,
+        [17_167_680_177_565, 9_223_354_869_174_598_243, 0],
+    )
+}
+
 #[test]
 fn all_patterns(rt: LibcRuntime) -> Result<(), Fail> {
     let plan = mixed()?;
@@ -129,6 +142,11 @@ fn records_answered(rt: LibcRuntime) -> Result<(), Fail> {
         heap,
         b"\x11\x00\x00\x00\x00\x22\x00\x00\x00\x01\x31\x01\x01\x02",
         "A 10 1 0 0\nE 1 1\n",
+    )?;
+    told(
+        heap,
+        b"\x11\x00\x00\x00\x00\x11\x00\x00\x00\x00\x22\x00\x01\x00\x00\x31\x01\x02\x02",
+        "A 15 1 1 0\nE 2 2\n",
     )
 }
 
