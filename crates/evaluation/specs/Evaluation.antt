@@ -1,7 +1,7 @@
 -- What an evaluation replies, and what its three lists hold then.
 use Prim.Native.Nat.{ℕ, zero, suc}
 use mathlib.Core.Path.{_≡_}
-use mathlib.Core.Bool.{cond, _||_}
+use mathlib.Core.Bool.{Bool, cond, _||_}
 use mathlib.Core.List.{List}
 use lib.Dec.{eqb, ltb}
 use lib.ListN.{length, getD}
@@ -20,12 +20,16 @@ use Rattle.sums.specs.Chain.{after-pass, closing, answer}
 use Rattle.sums.specs.Weights.{up-of, down-of}
 use Rattle.evaluation.specs.Written.{Written}
 
+-- Whether a work list has fewer than m places, or the answer list fewer than three.
+abbrev pub short-list : ℕ → ℕ → ℕ → ℕ → Bool
+short-list m totals next answer = ltb totals m || (ltb next m || ltb answer 3)
+
 -- Why an evaluation is declined, if it is: a rule of m states, a plan of n parts, at most `most` parts, lists of so many places.
 abbrev pub refusal : ℕ → ℕ → ℕ → ℕ → ℕ → ℕ → Option Refusal
 refusal m n most totals next answer =
     cond (eqb m 0) (Some TooWide)
     (cond (ltb most n) (Some TooManyParts)
-    (cond (ltb totals m || (ltb next m || ltb answer 3)) (Some ShortList) None))
+    (cond (short-list m totals next answer) (Some ShortList) None))
 
 -- How many places of the second work list are written: m once there is a pass.
 abbrev pub second-written : ℕ → ℕ → ℕ

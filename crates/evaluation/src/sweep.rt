@@ -1,11 +1,12 @@
 // One text for every rule and every scale.
 ghost use mathlib.Core.Path.{_≡_};
+ghost use mathlib.Core.Bool.{not};
 ghost use mathlib.Core.List.{[]};
 ghost use Prim.Native.Nat.{_<_, _≤_};
 ghost use lib.ListN.{length, getD};
 ghost use Rattle.plans.specs.Passes.{passes};
 ghost use Rattle.rules.specs.Automaton.{automaton};
-ghost use Rattle.evaluation.specs.Evaluation.{Evaluated, pass-totals};
+ghost use Rattle.evaluation.specs.Evaluation.{Evaluated, pass-totals, short-list};
 ghost use Rattle.evaluation.specs.Written.{Written};
 use crate::totals::advance;
 use crate::totals::begin;
@@ -14,6 +15,7 @@ use crate::weights::pass_weights;
 use plans::Plan;
 use refusals::Refusal;
 use rules::Rule;
+use scales::Scale;
 use scales::Weigher;
 
 // Values the plan by the rule on the weigher's scale, and answers m, the rule's number of states. The first three places of
@@ -36,7 +38,7 @@ pub fn evaluate<R: Rule, W: Weigher>(
     if plan.parts() > W::most() {
         return Err(Refusal::TooManyParts);
     }
-    if totals.len() < m || next.len() < m || answer.len() < 3 {
+    if !long_enough(m, totals, next, answer) {
         return Err(Refusal::ShortList);
     }
     begin(rule, m, totals);
@@ -45,6 +47,13 @@ pub fn evaluate<R: Rule, W: Weigher>(
     }
     sum(rule, m, totals, answer);
     Ok(m)
+}
+
+// Whether both work lists have m places, and the answer list three.
+fn long_enough<V: Scale>(m: usize, totals: &[V], next: &[V], answer: &[V]) -> bool
+    ensures { λ r. ⌜ r ≡ not (short-list m (length (now (totals .entry))) (length (now (next .entry))) (length (now (answer .entry)))) ⌝ }
+{
+    totals.len() >= m && next.len() >= m && answer.len() >= 3
 }
 
 // The totals after the pass p, in both lists.

@@ -1,8 +1,8 @@
 -- What answering a record, being stopped by one, and coming to the end do to the text so far.
-use mathlib.Core.Path.{_≡_, refl, sym, ap, ap₂, subst, _∙_}
+use mathlib.Core.Path.{_≡_, sym, ap, ap₂, subst, _∙_}
 use mathlib.Core.Bool.{true, false}
 use mathlib.Core.List.{List, [], _++_, append-assoc}
-use Prim.Native.Nat.{ℕ, _+_, _<_}
+use Prim.Native.Nat.{ℕ, _+_}
 use native.Mathlib.Omega.{arith}
 use lib.ListN.{length}
 use Rattle.std.specs.declared.option.Option.the-variants.{None, Some}
@@ -15,7 +15,7 @@ use Rattle.records.proofs.Framing.{none-at-end, told-within}
 use Rattle.replay.specs.Answers.{record-line, record-plan, closing-line}
 use Rattle.replay.specs.Lines.{refusal-line}
 use Rattle.replay.specs.Says.{Says, ended, stopped, answered}
-use Rattle.replay.specs.Turns.{SoFar, Turn}
+use Rattle.replay.specs.Turns.{Turn}
 use Rattle.replay.proofs.OnlyText.{only-text}
 
 module _ (input : List ℕ) (p q : ℕ) (plan : Model) (out : List ℕ) (goes : q ≡ place-after input p) where

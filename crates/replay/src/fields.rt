@@ -1,6 +1,6 @@
 // Numbers in the body of a record, the highest byte first.
 ghost use mathlib.Core.Path.{_≡_};
-ghost use Prim.Native.Nat.{ℕ, _+_, _*_, _/_, _≤_};
+ghost use Prim.Native.Nat.{_+_, _*_, _/_, _≤_};
 ghost use lib.ListN.{length, take};
 ghost use Rattle.replay.specs.Fields.{two-at, four-at, forecasts-of};
 

@@ -1,9 +1,9 @@
-use mathlib.Core.Path.{_≡_, sym, ap, _∙_}
+use mathlib.Core.Path.{sym, ap, _∙_}
 use mathlib.Core.List.{_++_}
 use Rattle.std.specs.Of.String.{string-bytes}
 use Rattle.std.specs.declared.option.Option.the-variants.{Some}
 use Rattle.plans.specs.Passes.{passes}
-use Rattle.records.specs.Reading.{entry, handed, told}
+use Rattle.records.specs.Reading.{entry, handed}
 use Rattle.records.proofs.Framing.{read-whole}
 use Rattle.replay.specs.Lines.{refusal-line}
 use Rattle.replay.proofs.Turning.{turn-answered, turn-stopped, turn-ended}

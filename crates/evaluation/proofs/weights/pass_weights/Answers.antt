@@ -1,4 +1,4 @@
-use mathlib.Core.Path.{_≡_, ap, _∙_}
+use mathlib.Core.Path.{ap, _∙_}
 use Rattle.std.proofs.shelf.Lists.{take-all}
 use Rattle.plans.specs.Parts.{open-part}
 use Rattle.sums.specs.Chain.{good, bad}

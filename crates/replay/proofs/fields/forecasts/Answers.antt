@@ -1,9 +1,9 @@
-use Prim.Native.Nat.{ℕ, _<_, _≤_, _*_, _/_}
-use mathlib.Core.Path.{_≡_, _∙_}
+use Prim.Native.Nat.{_<_, _≤_, _*_, _/_}
+use mathlib.Core.Path.{_∙_}
 use mathlib.Core.Logic.{_≢_}
 use native.Mathlib.Omega.{arith}
 use borrow.Author.Count.{below-more}
-use lib.ListN.{length, take, getD, length-set}
+use lib.ListN.{length, take, length-set}
 use lib.Seq.{getD-set-same, getD-set-other}
 use Rattle.std.proofs.shelf.Counted.{fill-by-all}
 use Rattle.std.proofs.shelf.Lists.{getD-take, length-take-le}

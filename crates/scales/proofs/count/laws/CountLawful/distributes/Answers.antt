@@ -1,5 +1,5 @@
-use Prim.Native.Nat.{_+_, _*_, _%_, _^_, _<_}
-use mathlib.Core.Path.{_≡_, sym, ap, _∙_}
+use Prim.Native.Nat.{_+_, _*_, _%_, _^_}
+use mathlib.Core.Path.{ap, _∙_}
 use native.Mathlib.Nat.{mul-add, add-mul, add-mod}
 use Rattle.scales.proofs.SameCount.{same-count}
 use Rattle.scales.proofs.Modulo.{mod-times, times-mod}
