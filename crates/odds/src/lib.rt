@@ -6,6 +6,8 @@
 // Products round, the low end down and the high end up, so this scale is not lawful. What it keeps instead is that it encloses:
 // if each of two pairs has a chance between its ends, their product has the product of the chances between its ends, and their
 // sum the sum of the chances, while that is at most one.
+#![tactic(auto)]
+
 mod enclosing;
 mod ends;
 mod forecasting;

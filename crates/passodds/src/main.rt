@@ -1,4 +1,6 @@
 // Reads records from standard input, and prints what they are answered with.
+#![tactic(auto)]
+
 ghost use Rattle.std.specs.Prelude.{◌≤◌, length, IfOk};
 
 use replay::respond;

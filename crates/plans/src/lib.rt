@@ -1,4 +1,6 @@
 // The plan that callers keep: passes of parts with forecasts, added, settled and dropped.
+#![tactic(auto)]
+
 pub mod laws;
 mod part;
 mod plan;

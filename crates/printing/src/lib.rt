@@ -1,4 +1,6 @@
 // The text that evaluations and refusals are printed as.
+#![tactic(auto)]
+
 mod lines;
 mod printed;
 mod values;

@@ -1,4 +1,6 @@
 // Records: what an input of bytes holds, one record after another, each handed out as a part of the input itself.
+#![tactic(auto)]
+
 mod kind;
 mod reader;
 mod record;

@@ -1,4 +1,6 @@
 // Why a call or a record is declined: one list of reasons for the whole product, each with its number.
+#![tactic(auto)]
+
 ghost use Rattle.std.specs.Prelude.{◌≡◌, Some};
 ghost use Rattle.refusals.specs.Reasons.{number, sentence};
 

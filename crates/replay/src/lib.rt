@@ -1,4 +1,6 @@
 // A plan driven by records: the text that an input of bytes is answered with.
+#![tactic(auto)]
+
 ghost use Rattle.std.specs.Prelude.{◌≡◌, [], IfOk, string_bytes};
 ghost use Rattle.plans.specs.Passes.{passes};
 ghost use Rattle.replay.specs.Says.{Says, SomeText, OneText};

@@ -2,6 +2,8 @@
 //
 // `Rule` says what a rule is, `Judging` that its verdict on every list of outcomes is the one of its definition.
 // Each named rule, and each layer over other rules, is a file of its own.
+#![tactic(auto)]
+
 mod judging;
 mod linear;
 mod rule;

@@ -1,4 +1,6 @@
 // Scales, on which plans are valued, and weighers, which turn forecasts into weights on a scale.
+#![tactic(auto)]
+
 mod by_missed;
 mod count;
 mod fewest;

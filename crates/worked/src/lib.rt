@@ -1,4 +1,6 @@
 // Worked plans: computed from the definitions, evaluated by the code, and held against a listing of all patterns.
+#![tactic(auto)]
+
 ghost use Rattle.worked.specs.Plans.{Worked};
 
 #[cfg(test)]
