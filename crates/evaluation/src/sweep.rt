@@ -60,7 +60,7 @@ fn carry<R: Rule, W: Weigher>(
     totals: &mut [W::Value],
     next: &mut [W::Value],
 )
-    requires { (p < length (passes plan.now)) × ((m ≡ states rule.now) × ((m ≤ length totals.old) × (m ≤ length next.old))) }
+    requires { (p < length (passes plan.now)) × ((m ≡ R.states rule.now) × ((m ≤ length totals.old) × (m ≤ length next.old))) }
     ensures totals { Written W.Value.Scale.zero m (pass_totals W.Value.Scale (automaton R.Rule rule.now) W.Weigher weigher.now (slice_index_or (passes plan.now) p []) totals.old) totals.old totals.new }
     ensures next { Written W.Value.Scale.zero m (pass_totals W.Value.Scale (automaton R.Rule rule.now) W.Weigher weigher.now (slice_index_or (passes plan.now) p []) totals.old) next.old next.new }
 {

@@ -10,8 +10,8 @@ use scales::Scale;
 
 // One at the first state, zero at the others.
 pub(super) fn begin<R: Rule, V: Scale>(rule: &R, m: usize, totals: &mut [V])
-    requires { (0 < m) × ((m ≡ states rule.now) × (m ≤ length totals.old)) }
-    ensures { Written zero m (begun V.Scale (automaton R.Rule rule.now)) totals.old totals.new }
+    requires { (0 < m) × ((m ≡ R.states rule.now) × (m ≤ length totals.old)) }
+    ensures { Written V.zero m (begun V.Scale (automaton R.Rule rule.now)) totals.old totals.new }
 {
     clear(totals, m);
     totals[rule.first()] = V::one();
@@ -19,8 +19,8 @@ pub(super) fn begin<R: Rule, V: Scale>(rule: &R, m: usize, totals: &mut [V])
 
 // What the total of one state adds to the states that it steps to: made, with good, and missed, with bad.
 fn spread<R: Rule, V: Scale>(rule: &R, s: usize, good: V, bad: V, totals: &[V], next: &mut [V])
-    requires { (s < states rule.now) × ((states rule.now ≤ length totals.now) × (states rule.now ≤ length next.old)) }
-    ensures { (t : ℕ) → slice_index_or next.new t zero ≡ spread_to V.Scale (automaton R.Rule rule.now) (λ s. get_or totals.now s zero) good bad s t (slice_index_or next.old t zero) }
+    requires { (s < R.states rule.now) × ((R.states rule.now ≤ length totals.now) × (R.states rule.now ≤ length next.old)) }
+    ensures { (t : ℕ) → slice_index_or next.new t V.zero ≡ spread_to V.Scale (automaton R.Rule rule.now) (λ s. get_or totals.now s V.zero) good bad s t (slice_index_or next.old t V.zero) }
 {
     let total = totals[s];
     add_at(next, rule.step(s, true), total.times(good));
@@ -29,8 +29,8 @@ fn spread<R: Rule, V: Scale>(rule: &R, s: usize, good: V, bad: V, totals: &[V], 
 
 // The totals after one more pass, gathered in another list.
 fn gather<R: Rule, V: Scale>(rule: &R, m: usize, good: V, bad: V, totals: &[V], next: &mut [V])
-    requires { (m ≡ states rule.now) × ((m ≤ length totals.now) × (m ≤ length next.old)) }
-    ensures { Written zero m (reaching V.Scale (automaton R.Rule rule.now) (λ s. get_or totals.now s zero) good bad m) next.old next.new }
+    requires { (m ≡ R.states rule.now) × ((m ≤ length totals.now) × (m ≤ length next.old)) }
+    ensures { Written V.zero m (reaching V.Scale (automaton R.Rule rule.now) (λ s. get_or totals.now s V.zero) good bad m) next.old next.new }
 {
     clear(next, m);
     for s in 0..m {
@@ -47,9 +47,9 @@ pub(super) fn advance<R: Rule, V: Scale>(
     totals: &mut [V],
     next: &mut [V],
 )
-    requires { (m ≡ states rule.now) × ((m ≤ length totals.old) × (m ≤ length next.old)) }
-    ensures totals { Written zero m (reaching V.Scale (automaton R.Rule rule.now) (λ s. get_or totals.old s zero) good bad m) totals.old totals.new }
-    ensures next { Written zero m (reaching V.Scale (automaton R.Rule rule.now) (λ s. get_or totals.old s zero) good bad m) next.old next.new }
+    requires { (m ≡ R.states rule.now) × ((m ≤ length totals.old) × (m ≤ length next.old)) }
+    ensures totals { Written V.zero m (reaching V.Scale (automaton R.Rule rule.now) (λ s. get_or totals.old s V.zero) good bad m) totals.old totals.new }
+    ensures next { Written V.zero m (reaching V.Scale (automaton R.Rule rule.now) (λ s. get_or totals.old s V.zero) good bad m) next.old next.new }
 {
     gather(rule, m, good, bad, totals, next);
     copy(next, totals, m);
@@ -69,7 +69,7 @@ fn place(verdict: Verdict) -> usize
 // What the total of one state adds to the answer for its verdict.
 fn count_in<R: Rule, V: Scale>(rule: &R, s: usize, totals: &[V], answer: &mut [V])
     requires { (s < length totals.now) × (3 ≤ length answer.old) }
-    ensures { (k : ℕ) → slice_index_or answer.new k zero ≡ add_if V.Scale (place_of (verdict rule.now s) == k) (slice_index_or answer.old k zero) (slice_index_or totals.now s zero) }
+    ensures { (k : ℕ) → slice_index_or answer.new k V.zero ≡ add_if V.Scale (place_of (R.verdict rule.now s) == k) (slice_index_or answer.old k V.zero) (slice_index_or totals.now s V.zero) }
 {
     add_at(answer, place(rule.verdict(s)), totals[s]);
 }
@@ -77,7 +77,7 @@ fn count_in<R: Rule, V: Scale>(rule: &R, s: usize, totals: &[V], answer: &mut [V
 // The sums of the totals over the kept, the lost and the aside states.
 pub(super) fn sum<R: Rule, V: Scale>(rule: &R, m: usize, totals: &[V], answer: &mut [V])
     requires { (m ≤ length totals.now) × (3 ≤ length answer.old) }
-    ensures { Written zero 3 (judged V.Scale (automaton R.Rule rule.now) (λ s. get_or totals.now s zero) m) answer.old answer.new }
+    ensures { Written V.zero 3 (judged V.Scale (automaton R.Rule rule.now) (λ s. get_or totals.now s V.zero) m) answer.old answer.new }
 {
     clear(answer, 3);
     for s in 0..m {

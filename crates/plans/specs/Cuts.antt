@@ -1,5 +1,5 @@
 -- How one list of parts is cut into passes by the list of their ends.
-use Rattle.std.specs.Prelude.{ℕ, ◌+◌, ◌-◌, ◌<◌, ◌≤◌, Bool, true, ◌&&◌, List, [], ◌∷◌, nat_le, nat_lt, slice_index_or, slice_range}
+use Rattle.std.specs.Prelude.{ℕ, ◌+◌, ◌<◌, ◌≤◌, Bool, true, ◌&&◌, List, [], ◌∷◌, nat_le, nat_lt, slice_index_or, slice_range}
 use Rattle.plans.specs.declared.part.Part.{Part}
 use Rattle.plans.specs.Parts.{one}
 

@@ -1,5 +1,5 @@
 -- What is found in a plan before a call writes.
-use Rattle.std.specs.Prelude.{◌≡◌, ℕ, ◌+◌, ◌-◌, ◌<◌, ◌≤◌, Bool, [], ◌∷◌, length, take, Ok, Err, slice_index, slice_index_or, slice_range}
+use Rattle.std.specs.Prelude.{◌≡◌, ℕ, ◌+◌, ◌<◌, ◌≤◌, Bool, [], ◌∷◌, length, take, Ok, Err, slice_index, slice_index_or, slice_range}
 use Rattle.refusals.specs.declared.Refusal.{Refusal}
 use Rattle.plans.specs.Model.{Model, Change, Settle, Drop, reply, after}
 use Rattle.plans.specs.Passes.{passes}

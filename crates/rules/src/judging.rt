@@ -17,7 +17,7 @@ pub trait Judging: Rule {
 
 // The verdict on a plan whose passes came out as given: what the rule's definition makes of them.
 pub fn judge<R: Judging>(rule: &R, outcomes: &[bool]) -> Verdict
-    ensures { result ≡ judges rule.now outcomes.now }
+    ensures { result ≡ R.judges rule.now outcomes.now }
 {
     R::judged();
     let mut state = rule.first();

@@ -4,7 +4,7 @@
 ghost use Rattle.std.specs.Prelude.{ℕ, ◌≤◌, Bool, List};
 ghost use Rattle.rules.specs.Judgement.{judgement};
 ghost use Rattle.rules.specs.Linear.{linear, linear_judges, LinearSettles};
-ghost use Rattle.std.proofs.Common.{rules, arith};
+ghost use Rattle.std.proofs.Common.{rules};
 
 use super::Linear;
 use crate::{Judging, Rule, Verdict};
@@ -18,17 +18,17 @@ impl Rule for Linear {
 
     ghost verdict = { λ rule. (linear rule.k).verdict };
 
-    ghost sized = { first_of (Prim.search rules, Prim.grind (arith, Self.row.coded.inj)) };
+    ghost sized = { Prim.search rules };
 
-    ghost begun = { first_of (Prim.search rules, Prim.grind (arith, Self.row.coded.inj)) };
+    ghost begun = { Prim.search rules };
 
-    ghost empty = { first_of (Prim.search rules, Prim.grind (arith, Self.row.coded.inj)) };
+    ghost empty = { Prim.search rules };
 
-    ghost within = { first_of (Prim.search rules, Prim.grind (arith, Self.row.coded.inj)) };
+    ghost within = { Prim.search rules };
 
-    ghost outside = { first_of (Prim.search rules, Prim.grind (arith, Self.row.coded.inj)) };
+    ghost outside = { Prim.search rules };
 
-    ghost aside = { first_of (Prim.search rules, Prim.grind (arith, Self.row.coded.inj)) };
+    ghost aside = { Prim.search rules };
 
     fn states(&self) -> usize {
         self.k + 1

@@ -14,5 +14,5 @@ loop-s-preserved g c =
     let at = place_of (rule.verdict s) in
     let below = place_below (rule.verdict s) in
     written_as scale.zero 3 _ (judged scale rule total _) c.clear.new.list _ (λ t h. rw add-one)
-    (written_by scale.zero 3 (λ k y. add_if scale (eqb at k) y (total s)) (judged scale rule total s) c.clear.new.list c.loop-s.answer c.count-in.new.answer
-    (λ k y h. add_elsewhere scale at k y (total s) (omega arith)) c.count-in.ensures c.loop-s.invariant)
+    (written_by scale.zero 3 (λ k y. add_if scale (eqb at k) y (total s)) (judged scale rule total s) c.clear.new.list c.loop-s.answer c.count_in.new.answer
+    (λ k y h. add_elsewhere scale at k y (total s) (omega arith)) c.count_in.ensures c.loop-s.invariant)

@@ -15,8 +15,8 @@ loop-part-preserved g c =
     let i = c.loop-part.part-index in
     let within = c.loop-part-test.true in
     let was = c.loop-part.invariant in (
-      c.with-part.ensures.made ∙ good_next scale up down parts i (open_part 0) within c.loop-part.good was.0,
-      c.with-part.ensures.missed ∙ bad_next scale up down parts i (open_part 0) within c.loop-part.good c.loop-part.bad was.0 was.1,
+      c.with_part.ensures.made ∙ good_next scale up down parts i (open_part 0) within c.loop-part.good was.0,
+      c.with_part.ensures.missed ∙ bad_next scale up down parts i (open_part 0) within c.loop-part.good c.loop-part.bad was.0 was.1,
     )
 
 pub returns : goal.returns

@@ -10,7 +10,7 @@ pub returns : goal.returns
 unfolding reply
 returns c =
     let fs = c.args.forecasts.now in
-    answered (Add fs) (passes c.args.self.now) c.check-pass.result (c.check-pass.ensures ∙ ap (add_reply fs) c.parts.ensures)
+    answered (Add fs) (passes c.args.self.now) c.check_pass.result (c.check_pass.ensures ∙ ap (add_reply fs) c.parts.ensures)
 
-pub check-pass-requires : goal.check-pass-requires
-check-pass-requires c = omega (arith, parts_few c.args.self.now)
+pub check_pass-requires : goal.check_pass-requires
+check_pass-requires c = omega (arith, parts_few c.args.self.now)

@@ -10,8 +10,8 @@ append-requires c =
     let fs = c.args.forecasts.now in
     (count_below_places m fs c.requires, end_within m fs c.requires)
 
-pub invariant-of-self : goal.invariant-of-self
-invariant-of-self c =
+pub invariant_of-self : goal.invariant_of-self
+invariant_of-self c =
     let m = c.args.self.now in
     let fs = c.args.forecasts.now in
     let parts = c.append.ensures.parts in
@@ -22,7 +22,15 @@ invariant-of-self c =
     let steps = rising_added m fs c.requires in
     let full = last_end_added m fs c.requires in
     let fits = at_most_one_added m fs c.requires in
-    (whole, (ended, (few, (end_within m fs c.requires, (simp ends steps, (simp ends full, (simp parts fits, tt)))))))
+    record {
+      whole = whole;
+      ended = ended;
+      few = few;
+      room = end_within m fs c.requires;
+      steps = simp ends steps;
+      full = simp ends full;
+      fits = simp parts fits;
+    }
 
 pub returns : goal.returns
 unfolding passes

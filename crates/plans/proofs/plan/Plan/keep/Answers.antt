@@ -7,8 +7,8 @@ use Rattle.plans.proofs.plan.Plan.keep.Goals as goal
 pub first-used-requires : goal.first-used-requires
 first-used-requires c = omega (arith, count_is_length c.args.self.now, c.requires)
 
-pub invariant-of-self : goal.invariant-of-self
-invariant-of-self c =
+pub invariant_of-self : goal.invariant_of-self
+invariant_of-self c =
     let m = c.args.self.now in
     let n = c.args.n in
     let le : n ≤ m.count = omega (arith, count_is_length m, c.requires) in
@@ -17,7 +17,15 @@ invariant-of-self c =
     let few : n ≤ 512 = omega (arith, m.few) in
     let room : c.first-used.result ≤ 512 = omega (arith, m.room) in
     let full = last_end_first m n le ∙ sym used in
-    (m.whole, (m.ended, (few, (room, (rising_first m n le, (full, (λ k d l. m.fits k d (omega arith), tt)))))))
+    record {
+      whole = m.whole;
+      ended = m.ended;
+      few = few;
+      room = room;
+      steps = rising_first m n le;
+      full = full;
+      fits = λ k d l. m.fits k d (omega arith);
+    }
 
 pub returns : goal.returns
 unfolding passes

@@ -5,15 +5,15 @@ use Rattle.plans.proofs.Answering.{declined, settle_nowhere}
 use Rattle.plans.proofs.Settling.{held_open, held_settled}
 use Rattle.plans.proofs.plan.Plan.open_place.Goals as goal
 
-pub returns-in-default : goal.returns-in-default
-returns-in-default c =
+pub returns-in_default : goal.returns-in_default
+returns-in_default c =
     let m = passes c.args.self.now in
-    λ up. declined _ m _ (settle_nowhere c.args.pass c.args.part up m c.in-default.ensures)
+    λ up. declined _ m _ (settle_nowhere c.args.pass c.args.part up m c.in_default.ensures)
 
-pub returns-then-not-is-open : goal.returns-then-not-is-open
-returns-then-not-is-open c =
-    held_settled c.args.self.now c.args.pass c.args.part c.in-Some.k c.in-Some.ensures (sym c.if-not-is-open.ensures)
+pub returns-then-not-is_open : goal.returns-then-not-is_open
+returns-then-not-is_open c =
+    held_settled c.args.self.now c.args.pass c.args.part c.in-Some.k c.in-Some.ensures (sym c.if-not-is_open.ensures)
 
 pub returns : goal.returns
 returns c =
-    held_open c.args.self.now c.args.pass c.args.part c.in-Some.k c.in-Some.ensures (sym c.if-not-is-open.ensures)
+    held_open c.args.self.now c.args.pass c.args.part c.in-Some.k c.in-Some.ensures (sym c.if-not-is_open.ensures)

@@ -8,8 +8,8 @@ use Rattle.plans.proofs.Changing.{length_changed, at_most_one_changed}
 use Rattle.plans.proofs.Shape.{passes_changed}
 use Rattle.plans.proofs.plan.Plan.settle_at.Goals as goal
 
-pub invariant-of-self : goal.invariant-of-self
-invariant-of-self c =
+pub invariant_of-self : goal.invariant_of-self
+invariant_of-self c =
     let m = c.args.self.now in
     let up = c.args.up in
     let k = c.args.k in
@@ -19,7 +19,15 @@ invariant-of-self c =
     let whole = ap length parts ∙ length_changed (settled up) k m.table.parts ∙ m.whole in
     let ended = ap length ends ∙ m.ended in
     let fits = at_most_one_changed (settled up) (λ _ h. h) m.table.parts k m.used w m.fits in
-    (whole, (ended, (m.few, (m.room, (simp ends m.steps, (simp ends m.full, (simp parts fits, tt)))))))
+    record {
+      whole = whole;
+      ended = ended;
+      few = m.few;
+      room = m.room;
+      steps = simp ends m.steps;
+      full = simp ends m.full;
+      fits = simp parts fits;
+    }
 
 pub returns : goal.returns
 unfolding passes

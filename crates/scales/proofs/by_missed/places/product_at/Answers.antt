@@ -8,4 +8,4 @@ loop-j-init c = refl
 
 pub loop-j-preserved : goal.loop-j-preserved
 unfolding sum_below
-loop-j-preserved c = simp add-one (omega (arith, c.loop-j.invariant, c.with-product-total.ensures))
+loop-j-preserved c = simp add-one (omega (arith, c.loop-j.invariant, c.with_product-total.ensures))

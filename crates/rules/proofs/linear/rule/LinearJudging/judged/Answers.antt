@@ -7,4 +7,4 @@ use Rattle.rules.proofs.linear.rule.LinearJudging.judged.Goals as goal
 pub returns : goal.returns
 returns c = λ rule outcomes.
     settled_same (judgement (linear rule.k) outcomes) (linear_judges rule.k outcomes)
-    (c.judged-by-runs.ensures.automaton rule.k outcomes rule.least) (c.judged-by-runs.ensures.definition rule.k outcomes)
+    (c.judged_by_runs.ensures.automaton rule.k outcomes rule.least) (c.judged_by_runs.ensures.definition rule.k outcomes)
