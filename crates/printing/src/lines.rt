@@ -1,26 +1,25 @@
 // The lines that are printed.
-ghost use Rattle.std.specs.Prelude.{◌≡◌, ◌++◌, is_ok, string_bytes, codes, decimal, OnOk};
+ghost use Rattle.std.specs.Prelude.{◌≡◌, ◌++◌, string_bytes, codes, decimal, OnOk};
 ghost use Rattle.printing.specs.Puts.{Puts};
 ghost use Rattle.printing.specs.Lines.{refusal_line, answer_line, end_line};
 
 use crate::printed::Printed;
 use refusals::Refusal;
 use std::alloc::AllocError;
-use std::fmt;
 
 // A declined record.
 pub fn put_refusal(place: usize, reason: Refusal, out: &mut String) -> Result<(), AllocError>
     ensures { Puts result out.old out.new (refusal_line place reason) }
 {
     let number = reason.number();
-    allocated(writeln!(out, "R {place} {number}"))
+    writeln!(out, "R {place} {number}")
 }
 
 // The last line.
 pub fn put_end(parts: usize, passes: usize, out: &mut String) -> Result<(), AllocError>
     ensures { Puts result out.old out.new (end_line parts passes) }
 {
-    allocated(writeln!(out, "E {parts} {passes}"))
+    writeln!(out, "E {parts} {passes}")
 }
 
 // An evaluation: its three values, in a plan of so many parts.
@@ -32,7 +31,7 @@ pub fn put_answer<V: Printed>(
     aside: &V,
     out: &mut String,
 ) -> Result<(), AllocError>
-    ensures { Puts result out.old out.new (answer_line place (printed kept.now parts) (printed lost.now parts) (printed aside.now parts)) }
+    ensures { Puts result out.old out.new (answer_line place (V.printed kept.now parts) (V.printed lost.now parts) (V.printed aside.now parts)) }
 {
     put_head(place, out)?;
     put_values(kept, lost, aside, parts, out)?;
@@ -43,7 +42,7 @@ pub fn put_answer<V: Printed>(
 fn put_head(place: usize, out: &mut String) -> Result<(), AllocError>
     ensures { Puts result out.old out.new (codes "A " ++ decimal place) }
 {
-    allocated(write!(out, "A {place}"))
+    write!(out, "A {place}")
 }
 
 // Three values, one behind the other.
@@ -54,7 +53,7 @@ fn put_values<V: Printed>(
     parts: usize,
     out: &mut String,
 ) -> Result<(), AllocError>
-    ensures { OnOk result (string_bytes out.new ≡ ((string_bytes out.old ++ (codes " " ++ printed kept.now parts)) ++ (codes " " ++ printed lost.now parts)) ++ (codes " " ++ printed aside.now parts)) }
+    ensures { OnOk result (string_bytes out.new ≡ ((string_bytes out.old ++ (codes " " ++ V.printed kept.now parts)) ++ (codes " " ++ V.printed lost.now parts)) ++ (codes " " ++ V.printed aside.now parts)) }
 {
     put_spaced(kept, parts, out)?;
     put_spaced(lost, parts, out)?;
@@ -64,19 +63,9 @@ fn put_values<V: Printed>(
 
 // A space, and then the value.
 fn put_spaced<V: Printed>(value: &V, parts: usize, out: &mut String) -> Result<(), AllocError>
-    ensures { Puts result out.old out.new (codes " " ++ printed value.now parts) }
+    ensures { Puts result out.old out.new (codes " " ++ V.printed value.now parts) }
 {
     out.push_str(" ")?;
     value.put(parts, out)?;
     Ok(())
-}
-
-// Writing to a `String` fails for want of memory alone.
-pub(super) fn allocated(written: fmt::Result) -> Result<(), AllocError>
-    ensures { is_ok result ≡ is_ok written }
-{
-    match written {
-        Ok(()) => Ok(()),
-        Err(_) => Err(AllocError),
-    }
 }

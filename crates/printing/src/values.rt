@@ -3,7 +3,6 @@ ghost use Rattle.std.specs.Prelude.{decimal};
 ghost use Rattle.printing.specs.Puts.{Puts};
 ghost use Rattle.printing.specs.Values.{count_text, ends_text, fewest_text, by_missed_text, commas, further};
 
-use crate::lines::allocated;
 use crate::printed::Printed;
 use odds::Ends;
 use scales::{ByMissed, Count, Fewest};
@@ -23,7 +22,7 @@ impl Printed for Fewest {
     fn put(&self, _parts: usize, out: &mut String) -> Result<(), AllocError> {
         match self.least() {
             Some(number) => put_number(u64::from(number), out),
-            None => allocated(write!(out, "none")),
+            None => write!(out, "none"),
         }
     }
 }
@@ -34,7 +33,7 @@ impl Printed for Ends {
     fn put(&self, _parts: usize, out: &mut String) -> Result<(), AllocError> {
         let low = self.low;
         let high = self.high;
-        allocated(write!(out, "{low}-{high}"))
+        write!(out, "{low}-{high}")
     }
 }
 
@@ -65,12 +64,12 @@ fn put_numbers(numbers: &[u64], out: &mut String) -> Result<(), AllocError>
 fn put_number(number: u64, out: &mut String) -> Result<(), AllocError>
     ensures { Puts result out.old out.new (decimal number) }
 {
-    allocated(write!(out, "{number}"))
+    write!(out, "{number}")
 }
 
 // A number behind another.
 fn put_further(number: u64, out: &mut String) -> Result<(), AllocError>
     ensures { Puts result out.old out.new (further number) }
 {
-    allocated(write!(out, ",{number}"))
+    write!(out, ",{number}")
 }

@@ -7,7 +7,7 @@ pub returns : goal.returns
 returns g c =
     let said = g.V.Printed.printed in
     let parts = c.args.parts in
-    five (string_bytes c.args.out.now) (string_bytes c.put-head.new.out) _ _ _ _
+    five (string_bytes c.args.out.now) (string_bytes c.put_head.new.out) _ _ _ _
     (codes "A " ++ decimal c.args.place) (codes " " ++ said c.args.kept.now parts) (codes " " ++ said c.args.lost.now parts) (codes " " ++ said c.args.aside.now parts) (codes "\n")
-    c.in-ok-put-head.ensures refl refl c.in-ok-put-values.ensures
-    (pushed (codes "\n") refl c.in-ok-push-str.was c.push-str.ensures.bytes)
+    c.in_ok-put_head.ensures refl refl c.in_ok-put_values.ensures
+    (pushed (codes "\n") refl c.in_ok-push_str.was c.push_str.ensures.bytes)
