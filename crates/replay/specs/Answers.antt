@@ -3,9 +3,6 @@ use Rattle.std.specs.Prelude.{ℕ, true, false, cond, ◌&&◌, List, [], length
 use Rattle.refusals.specs.declared.Refusal.{Refusal}
 use Rattle.refusals.specs.declared.Refusal.TheVariants.{BadRule, UnknownByte}
 use Rattle.scales.specs.Counts.{counts, counting}
-use Rattle.scales.specs.Fewests.{fewests, minimizing}
-use Rattle.odds.specs.Odds.{odds, forecasting}
-use Rattle.scales.specs.Tallies.{tallies, tallying}
 use Rattle.rules.specs.Automaton.{Automaton}
 use Rattle.rules.specs.Linear.{linear}
 use Rattle.plans.specs.Model.{Model, Change, size, reply, after}
@@ -22,7 +19,7 @@ use Rattle.replay.specs.Evaluations.{evaluation_line}
 use Rattle.replay.specs.Fields.{byte_at, two_at, forecasts_of}
 use Rattle.printing.specs.Lines.{refusal_line, end_line}
 use Rattle.replay.specs.Questions.{question_of}
-use Rattle.printing.specs.Values.{count_text, ends_text, by_missed_text, fewest_text}
+use Rattle.printing.specs.Values.{count_text}
 
 -- What a settle record asks: a pass, a part, and 1 for up or 0 for down.
 abbrev pub settling_of : List ℕ → Result Change Refusal
@@ -45,12 +42,9 @@ abbrev pub reply_line : ℕ → Result Unit Refusal → List ℕ
 reply_line place (Ok done) = []
 reply_line place (Err reason) = refusal_line place reason
 
--- The line of an evaluation by a rule, on the scale that is asked for. Work lists have 4096 places, 64 on by-missed.
+-- The line of an evaluation by a rule, on the scale that is asked for.
 abbrev pub scale_line : ℕ → Model → Automaton → ScaleKind → List ℕ
-scale_line place plan rule TheScales.Odds = evaluation_line odds rule forecasting (record {}) ends_text 4096 plan place
 scale_line place plan rule TheScales.Count = evaluation_line counts rule counting (record {}) count_text 4096 plan place
-scale_line place plan rule TheScales.ByMissed = evaluation_line tallies rule tallying (record {}) by_missed_text 64 plan place
-scale_line place plan rule TheScales.Fewest = evaluation_line fewests rule minimizing (record {}) fewest_text 4096 plan place
 
 -- The line of an evaluation by the rule that is asked for, which is declined outside its limits.
 abbrev pub rule_line : ℕ → Model → RuleKind → ℕ → ScaleKind → List ℕ

@@ -6,20 +6,16 @@ use Rattle.replay.specs.declared.question.Question.{Question}
 use Rattle.replay.specs.declared.question.RuleKind.{RuleKind}
 use Rattle.replay.specs.declared.question.RuleKind.TheVariants.{Linear}
 use Rattle.replay.specs.declared.question.ScaleKind.{ScaleKind}
-use Rattle.replay.specs.declared.question.ScaleKind.TheVariants.{Odds, Count, ByMissed, Fewest}
+use Rattle.replay.specs.declared.question.ScaleKind.TheVariants.{Count}
 use Rattle.replay.specs.Fields.{byte_at}
 
 -- The rule that a byte names: 1 is linear.
 abbrev pub rule_of : ℕ → Option RuleKind
 rule_of byte = cond (byte == 1) (Some Linear) None
 
--- The scale that a byte names: 1 is odds, 2 count, 3 by-missed, 4 fewest.
+-- The scale that a byte names: 2 is count.
 abbrev pub scale_of : ℕ → Option ScaleKind
-scale_of byte =
-    cond (byte == 1) (Some Odds)
-    (cond (byte == 2) (Some Count)
-    (cond (byte == 3) (Some ByMissed)
-    (cond (byte == 4) (Some Fewest) None)))
+scale_of byte = cond (byte == 2) (Some Count) None
 
 -- The question, if both are known.
 abbrev pub question : Option RuleKind → ℕ → Option ScaleKind → Result Question Refusal

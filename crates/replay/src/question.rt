@@ -13,10 +13,7 @@ pub(super) enum RuleKind {
 // The scales that a record can name.
 #[derive(Clone, Copy)]
 pub(super) enum ScaleKind {
-    Odds,
     Count,
-    ByMissed,
-    Fewest,
 }
 
 #[derive(Clone, Copy)]
@@ -42,10 +39,7 @@ impl ScaleKind {
         ensures { result ≡ scale_of byte }
     {
         match byte {
-            1 => Some(ScaleKind::Odds),
             2 => Some(ScaleKind::Count),
-            3 => Some(ScaleKind::ByMissed),
-            4 => Some(ScaleKind::Fewest),
             _ => None,
         }
     }

@@ -12,28 +12,21 @@ ghost use Rattle.replay.specs.Questions.{question_of};
 use crate::fields::{LONGEST, forecasts, two};
 use crate::question::{Question, RuleKind, ScaleKind};
 use crate::work::Lists;
-use odds::{Ends, Forecasting};
 use plans::Plan;
 use printing::{put_end, put_refusal};
 use records::Record;
 use refusals::Refusal;
 use rules::{Linear, Rule};
-use scales::{ByMissed, Count, Counting, Fewest, Minimizing, Tallying};
+use scales::{Count, Counting};
 use std::alloc::{AllocError, Global};
 
 // The places of a work list: as many as a rule has states at most.
 const PLACES: usize = 4096;
 
-// A value of this scale is 64 counts, so its lists have fewer places.
-const PLACES_BY_MISSED: usize = 64;
-
 #[derive(Drop)]
 pub(super) struct Session {
     plan: Plan,
-    odds: Lists<Ends, PLACES>,
     counts: Lists<Count, PLACES>,
-    by_missed: Lists<ByMissed, PLACES_BY_MISSED>,
-    fewest: Lists<Fewest, PLACES>,
 }
 
 impl Session {
@@ -41,16 +34,10 @@ impl Session {
     pub(super) fn new(heap: Global) -> Result<Session, AllocError>
         ensures { IfOk result (λ session. passes session.plan ≡ []) }
     {
-        let odds = Lists::new(heap)?;
         let counts = Lists::new(heap)?;
-        let by_missed = Lists::new(heap)?;
-        let fewest = Lists::new(heap)?;
         Ok(Session {
             plan: Plan::make(),
-            odds,
             counts,
-            by_missed,
-            fewest,
         })
     }
 
@@ -143,18 +130,9 @@ impl Session {
         ensures same { self.new.plan ≡ self.old.plan }
     {
         match scale {
-            ScaleKind::Odds => self
-                .odds
-                .put_evaluation(&self.plan, rule, &Forecasting, place, out),
             ScaleKind::Count => self
                 .counts
                 .put_evaluation(&self.plan, rule, &Counting, place, out),
-            ScaleKind::ByMissed => self
-                .by_missed
-                .put_evaluation(&self.plan, rule, &Tallying, place, out),
-            ScaleKind::Fewest => self
-                .fewest
-                .put_evaluation(&self.plan, rule, &Minimizing, place, out),
         }
     }
 }

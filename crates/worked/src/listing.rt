@@ -106,7 +106,7 @@ impl Tally {
 }
 
 // The first so many patterns of a plan, by their verdicts: kept, lost and aside.
-pub(super) fn listed<R: Judging>(
+pub(super) fn tallied<R: Judging>(
     heap: Global,
     plan: &Plan,
     rule: &R,
@@ -132,4 +132,15 @@ pub(super) fn listed<R: Judging>(
         }
     }
     Ok(verdicts)
+}
+
+// How many of the first so many patterns are kept, lost and aside.
+pub(super) fn listed<R: Judging>(
+    heap: Global,
+    plan: &Plan,
+    rule: &R,
+    patterns: u32,
+) -> Result<[u64; 3], AllocError> {
+    let [kept, lost, aside] = tallied(heap, plan, rule, patterns)?;
+    Ok([kept.count(), lost.count(), aside.count()])
 }

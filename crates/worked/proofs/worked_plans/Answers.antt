@@ -1,10 +1,7 @@
 use Rattle.std.proofs.Common.{refl}
-use Rattle.std.specs.Fmt.{digits}
 use Rattle.plans.specs.Model.{after, reply}
-use Rattle.scales.specs.Places.{places}
-use Rattle.scales.specs.Tallies.{sum_below}
 use Rattle.worked.proofs.worked_plans.Goals as goal
 
 pub returns : goal.returns
-unfolding after reply places sum_below digits
+unfolding after reply
 returns c = refl
