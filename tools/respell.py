@@ -1,6 +1,6 @@
 #!/usr/bin/env python3
 """Brings the names of this repository's own definitions and lemmas to the toolchain's spelling: words in snake case, facts
-and modules in camel case. Run once, at the top of the repository, after the toolchain's own port script."""
+and modules in camel case. Run at the top of the repository, after the toolchain's own port script; a second run changes nothing."""
 
 import os
 import re
@@ -58,7 +58,7 @@ def declared():
     for path in files(".antt"):
         for line in read(path).splitlines():
             m = DECLARED.match(line)
-            if m and "-" in m[1] and not re.search(r":\s*goal\.", line):
+            if m and "-" in m[1] and m[1] not in OTHERS.values() and not re.search(r":\s*goal\.", line):
                 found.add(m[1])
     return found
 
