@@ -10,7 +10,7 @@ pub trait Weigher {
     // The most parts that a plan may have.
     const LIMIT: usize;
 
-    // What LIMIT is, for contracts, which cannot name an associated constant.
+    // What LIMIT is, for contracts.
     ghost limit: { ℕ };
 
     ghost up: { Self → ℕ → Self.Value };
