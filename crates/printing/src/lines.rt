@@ -23,6 +23,7 @@ pub fn put_end(parts: usize, passes: usize, out: &mut String) -> Result<(), Allo
 }
 
 // An evaluation: its three values, in a plan of so many parts.
+#[tactic(auto, using(crate::proofs::Pieces::five))]
 pub fn put_answer<V: Printed>(
     place: usize,
     parts: usize,
