@@ -28,6 +28,9 @@ module _ (m : Plan) where
   unfolding passes
   count_is_length = sym (length_cut 0 (ends m) m.table.parts ∙ length_ends)
 
+  pub passes_few : length (passes m) ≤ 512
+  passes_few = omega (arith, count_is_length, m.few)
+
   pub used_is_size : m.used ≡ size (passes m)
   unfolding passes
   used_is_size = omega (arith, size_cut 0 (ends m) m.table.parts m.steps last_end_within, m.full)

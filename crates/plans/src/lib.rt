@@ -7,4 +7,4 @@ mod plan;
 mod table;
 
 pub use part::{Part, Standing};
-pub use plan::Plan;
+pub use plan::{Passes, Plan};

@@ -3,13 +3,16 @@ ghost use Rattle.std.specs.Prelude.{◌≡◌, ◌≤◌, true, length, take};
 ghost use Rattle.plans.specs.Cuts.{rising, last_end, AtMostOne};
 
 mod calls;
+mod iter;
 mod reads;
+
+pub use iter::Passes;
 
 use crate::table::Table;
 
 // A plan: passes in order, each a list of parts.
 // The first `count` ends cut the first `used` places of the table into passes.
-#[derive(Clone, Copy)]
+#[derive(Clone, Copy, Debug)]
 pub struct Plan {
     table: Table,
     count: usize,

@@ -17,7 +17,7 @@ const LONGEST: usize = 8;
 const ONE: u32 = 1 << 30;
 
 // A plain store: which of the places are in use, the plan knows.
-#[derive(Clone, Copy)]
+#[derive(Clone, Copy, Debug)]
 pub(crate) struct Table {
     pub(crate) parts: [Part; PLACES],
     pub(crate) ends: [u16; PLACES],
