@@ -3,6 +3,7 @@ pub mod Answering
 pub mod Changing
 pub mod Cutting
 pub mod Fitting
+pub mod Forecasts
 pub mod Lawful
 pub mod Laying
 pub mod Placing

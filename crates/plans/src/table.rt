@@ -1,7 +1,8 @@
 // The places that hold a plan's parts, and where each of its passes ends.
-ghost use Rattle.std.specs.Prelude.{◌≡◌, ◌+◌, ◌<◌, ◌≤◌, map, length, replicate, slice_set};
+ghost use Rattle.std.specs.Prelude.{◌≡◌, ◌+◌, ◌<◌, ◌≤◌, map, length, replicate, slice_set, nat_lt};
+ghost use Rattle.std.specs.List.{list_any};
 ghost use Rattle.plans.specs.Model.{add_reply};
-ghost use Rattle.plans.specs.Parts.{open_part, settled, over_one_lem};
+ghost use Rattle.plans.specs.Parts.{open_part, settled, one};
 ghost use Rattle.plans.specs.Lists.{laid, changed_at};
 
 use crate::part::{Part, Standing};
@@ -17,6 +18,7 @@ const LONGEST: usize = 8;
 const ONE: u32 = 1 << 30;
 
 // A plain store: which of the places are in use, the plan knows.
+// Arrays of a fixed length, and counts beside them in the plan, in the place of two lists that grow: a plan has no heap.
 #[derive(Clone, Copy, Debug)]
 pub(crate) struct Table {
     pub(crate) parts: [Part; PLACES],
@@ -49,7 +51,8 @@ impl Table {
 
     // Writes the pass of that number, open parts with these forecasts, from the place `at` on.
     pub(crate) fn append(&mut self, pass: usize, at: usize, forecasts: &[u32])
-        requires { (pass < 512) × (at + length forecasts.now ≤ 512) }
+        requires pass { pass < 512 }
+        requires room { at + length forecasts.now ≤ 512 }
         ensures parts { self.new.parts ≡ laid self.old.parts at (map open_part forecasts.now) }
         ensures ends { self.new.ends ≡ slice_set self.old.ends pass (at + length forecasts.now) }
     {
@@ -58,24 +61,26 @@ impl Table {
     }
 
     // Writes open parts with these forecasts from the place `at` on.
+    #[tactic(auto, using(crate::proofs::Laying::laid_next))]
     fn fill(&mut self, at: usize, forecasts: &[u32])
         requires { at + length forecasts.now ≤ 512 }
         ensures parts { self.new.parts ≡ laid self.old.parts at (map open_part forecasts.now) }
         ensures ends { self.new.ends ≡ self.old.ends }
     {
-        for (i, forecast) in forecasts.iter().enumerate() {
-            self.parts[at + i] = Part::open(*forecast);
+        for (place, forecast) in (at..).zip(forecasts) {
+            self.parts[place] = Part::open(*forecast);
         }
     }
 }
 
 // Why a pass with these forecasts is declined where a plan has so many parts, if it is.
+#[tactic(auto, using(crate::proofs::Forecasts::over_one_is_any))]
 pub(crate) fn check_pass(forecasts: &[u32], parts: usize) -> Result<(), Refusal>
     requires { parts ≤ 512 }
     ensures { result ≡ add_reply forecasts.now parts }
 {
     let n = forecasts.len();
-    if n == 0 || n > LONGEST {
+    if !(1..=LONGEST).contains(&n) {
         return Err(Refusal::OddPass);
     }
     if over_one(forecasts) {
@@ -89,12 +94,7 @@ pub(crate) fn check_pass(forecasts: &[u32], parts: usize) -> Result<(), Refusal>
 
 // Whether one of the forecasts is above one.
 fn over_one(forecasts: &[u32]) -> bool
-    ensures { result ≡ over_one_lem forecasts.now }
+    ensures { result ≡ list_any (λ f. nat_lt one f) forecasts.now }
 {
-    for forecast in forecasts {
-        if *forecast > ONE {
-            return true;
-        }
-    }
-    false
+    forecasts.iter().any(|forecast| *forecast > ONE)
 }

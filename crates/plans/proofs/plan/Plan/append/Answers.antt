@@ -8,7 +8,7 @@ pub append-requires : goal.append-requires
 append-requires c =
     let m = c.args.self.now in
     let fs = c.args.forecasts.now in
-    (count_below_places m fs c.requires, end_within m fs c.requires)
+    record { pass = count_below_places m fs c.requires; room = end_within m fs c.requires }
 
 pub invariant_of-self : goal.invariant_of-self
 invariant_of-self c =
