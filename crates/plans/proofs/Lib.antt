@@ -2,6 +2,7 @@ pub mod Adding
 pub mod Answering
 pub mod Changing
 pub mod Cutting
+pub mod Finding
 pub mod Fitting
 pub mod Forecasts
 pub mod Lawful

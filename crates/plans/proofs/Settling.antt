@@ -1,13 +1,16 @@
--- Whether a part that is found in the table may be settled.
-use Rattle.std.proofs.Common.{◌≡◌, ℕ, Bool, true, false, get_or}
-use Rattle.refusals.specs.declared.Refusal.TheVariants.{AlreadySettled}
+-- Whether a part may be settled, by what is found of it in the table.
+use Rattle.std.proofs.Common.{◌≡◌, ℕ, Bool, true, false, None, get_or}
+use Rattle.refusals.specs.declared.Refusal.TheVariants.{NoSuchPlace, AlreadySettled}
 use Rattle.plans.specs.declared.plan.Plan.{Plan}
 use Rattle.plans.specs.Found.{HoldsPart, HoldsOpen, Declined}
-use Rattle.plans.specs.Model.{Settle}
+use Rattle.plans.specs.Model.{Settle, place}
 use Rattle.plans.specs.Parts.{is_open, open_part}
 use Rattle.plans.specs.Passes.{passes}
-use Rattle.plans.proofs.Answering.{declined, settle_settled, settle_open}
+use Rattle.plans.proofs.Answering.{declined, settle_nowhere, settle_settled, settle_open}
 use Rattle.plans.proofs.Shape.{place_held}
+
+pub nowhere : (m : Plan) (p i : ℕ) → place (passes m) p i ≡ None → (up : Bool) → Declined (Settle p i up) (passes m) NoSuchPlace
+nowhere m p i e up = declined _ (passes m) _ (settle_nowhere p i up (passes m) e)
 
 module _ (m : Plan) (p i k : ℕ) (h : HoldsPart m p i k) where
   pub held_open : is_open (get_or m.table.parts k (open_part 0)).standing ≡ true → HoldsOpen m p i k

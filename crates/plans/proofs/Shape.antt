@@ -14,11 +14,11 @@ use Rattle.plans.proofs.Cutting.{last_end_above, rising_at, length_piece, length
 use Rattle.plans.proofs.Placing.{place_in}
 
 -- The ends of the passes of a plan.
-abbrev ends : Plan → List ℕ
+abbrev pub ends : Plan → List ℕ
 ends m = take m.count m.table.ends
 
 module _ (m : Plan) where
-  length_ends : length (ends m) ≡ m.count
+  pub length_ends : length (ends m) ≡ m.count
   length_ends = length-take-le m.count m.table.ends (omega (arith, m.few, m.ended))
 
   pub last_end_within : last_end 0 (ends m) ≤ length m.table.parts
@@ -62,6 +62,9 @@ module _ (m : Plan) where
         starts = refl;
         stops = refl;
       }
+
+  pub holds_between : (p a b : ℕ) → p < m.count → a ≡ get_or (0 ∷ m.table.ends) p 0 → b ≡ get_or (ends m) p 0 → Holds m p a b
+  holds_between p a b l e f = rw (e, f ∙ end_at p l) (holds p l)
 
   pub place_outside : (p i a b : ℕ) → Holds m p a b → b ≤ a + i → place (passes m) p i ≡ None
   place_outside p i a b h l =

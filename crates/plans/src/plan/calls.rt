@@ -64,11 +64,8 @@ impl Plan {
     fn open_place(&self, pass: usize, part: usize) -> Result<usize, Refusal>
         ensures { MatchResult result (λ k. HoldsOpen self.now pass part k) (λ e. (up : Bool) → Declined (Settle pass part up) (passes self.now) e) }
     {
-        let Some(k) = self.find(pass, part) else {
-            return Err(Refusal::NoSuchPlace);
-        };
-        let found = self.table.parts[k];
-        if !found.is_open() {
+        let k = self.find(pass, part).ok_or(Refusal::NoSuchPlace)?;
+        if !self.table.parts[k].is_open() {
             return Err(Refusal::AlreadySettled);
         }
         Ok(k)
@@ -78,22 +75,14 @@ impl Plan {
     fn find(&self, pass: usize, part: usize) -> Option<usize>
         ensures { MatchOption result (place (passes self.now) pass part ≡ None) (λ k. HoldsPart self.now pass part k) }
     {
-        let (first, end) = self.bounds(pass)?;
-        if part >= end - first {
-            return None;
-        }
-        Some(first + part)
+        self.places(pass)?.nth(part)
     }
 
     // The number of the last pass, or why there is none.
     fn last_pass(&self) -> Result<usize, Refusal>
         ensures { MatchResult result (λ n. IsLast self.now n) (λ e. Declined Drop (passes self.now) e) }
     {
-        let n = self.passes();
-        if n == 0 {
-            return Err(Refusal::NoPass);
-        }
-        Ok(n - 1)
+        self.passes().checked_sub(1).ok_or(Refusal::NoPass)
     }
 
     // Writes one more pass, which the plan admits.

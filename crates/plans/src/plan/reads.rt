@@ -6,21 +6,22 @@ ghost use Rattle.plans.specs.Passes.{passes};
 
 use super::Plan;
 use crate::part::Part;
+use std::ops::Range;
 
 impl Plan {
     // How many passes there are.
+    #[tactic(auto, using(crate::proofs::Shape::count_is_length))]
     pub fn passes(&self) -> usize
         ensures { result ≡ length (passes self.now) }
     {
-        self.sizes_agree();
         self.count
     }
 
     // How many parts all passes have together.
+    #[tactic(auto, using(crate::proofs::Shape::used_is_size))]
     pub fn parts(&self) -> usize
         ensures { result ≡ size (passes self.now) }
     {
-        self.sizes_agree();
         self.used
     }
 
@@ -28,18 +29,16 @@ impl Plan {
     pub fn pass(&self, pass: usize) -> Option<&[Part]>
         ensures { MatchOption result (length (passes self.now) ≤ pass) (λ parts. IsPass (passes self.now) pass parts.now) }
     {
-        let (first, end) = self.bounds(pass)?;
-        Some(&self.table.parts[first..end])
+        let places = self.places(pass)?;
+        Some(&self.table.parts[places])
     }
 
-    // The places of the table from where to where a pass stands.
-    pub(super) fn bounds(&self, pass: usize) -> Option<(usize, usize)>
-        ensures { MatchOption result (length (passes self.now) ≤ pass) (λ s. Holds self.now pass s.0 s.1) }
+    // The places of the table where a pass stands.
+    pub(super) fn places(&self, pass: usize) -> Option<Range<usize>>
+        ensures { MatchOption result (length (passes self.now) ≤ pass) (λ s. Holds self.now pass s.start s.end) }
     {
-        if pass >= self.count {
-            return None;
-        }
-        Some((self.first(pass), self.table.ends[pass] as usize))
+        let end = *self.table.ends[..self.count].get(pass)?;
+        Some(self.first(pass)..usize::from(end))
     }
 
     // The place of the table where a pass begins, or where the next one would.
@@ -47,16 +46,9 @@ impl Plan {
         requires { pass ≤ self.now.count }
         ensures { result ≡ slice_index (0 ∷ self.now.table.ends) pass }
     {
-        if pass == 0 {
-            0
-        } else {
-            self.table.ends[pass - 1] as usize
+        match pass.checked_sub(1) {
+            None => 0,
+            Some(before) => usize::from(self.table.ends[before]),
         }
     }
-
-    // A fact for the proofs, which does nothing: the two counts are those of the passes.
-    fn sizes_agree(&self)
-        ensures passes { self.now.count ≡ length (passes self.now) }
-        ensures parts { self.now.used ≡ size (passes self.now) }
-    {}
 }

@@ -1,14 +1,19 @@
--- There is no such pass, or no such part of it.
-use Rattle.std.proofs.Common.{arith}
+-- There is no such pass, or no such part of it, or it is found.
+use Rattle.std.proofs.Common.{◌-◌, ◌∙◌, sym, refl}
+use Rattle.std.proofs.lemmas.Iterator.{YieldsList-from_range}
+use Rattle.std.proofs.lemmas.Iterator.Consumers.{nth_from_yields_List}
+use Rattle.std.proofs.lemmas.Iterator.Adapters.{option_map_id}
 use Rattle.plans.specs.Passes.{passes}
+use Rattle.plans.proofs.Finding.{part_among}
 use Rattle.plans.proofs.Placing.{place_past}
-use Rattle.plans.proofs.Shape.{place_outside}
 use Rattle.plans.proofs.plan.Plan.find.Goals as goal
 
-pub returns-in_err-first : goal.returns-in_err-first
-returns-in_err-first c =
-    rw c.from_residual.ensures (place_past (passes c.args.self.now) c.args.pass c.args.part c.in_err-first.ensures)
+pub returns-in_err-places : goal.returns-in_err-places
+returns-in_err-places c =
+    rw c.from_residual.ensures (place_past (passes c.args.self.now) c.args.pass c.args.part c.in_err-places.ensures)
 
-pub returns-then-part-end : goal.returns-then-part-end
-returns-then-part-end c =
-    place_outside c.args.self.now c.args.pass c.args.part c.in_ok-first.first c.in_ok-first.end c.in_ok-first.ensures (omega arith)
+pub returns : goal.returns
+returns c =
+    let s = c.in_ok-places.field-0 in
+    let e = nth_from_yields_List c.nth.result _ c.args.part c.nth.ensures.ran (YieldsList-from_range s.start s.end (s.end - s.start) refl refl) in
+    part_among c.args.self.now c.args.pass c.args.part s.start s.end c.nth.result c.in_ok-places.ensures (sym (option_map_id c.nth.result) ∙ e)
