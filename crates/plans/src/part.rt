@@ -33,10 +33,7 @@ impl Part {
     pub fn is_open(&self) -> bool
         ensures { result ≡ is_open self.now.standing }
     {
-        match self.standing {
-            Standing::Open => true,
-            Standing::Up | Standing::Down => false,
-        }
+        matches!(self.standing, Standing::Open)
     }
 
     // Writes the outcome down.
