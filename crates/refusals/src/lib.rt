@@ -4,9 +4,11 @@
 ghost use Rattle.std.specs.Prelude.{◌≡◌, Some};
 ghost use Rattle.refusals.specs.Reasons.{number, sentence};
 
+use std::error::Error;
 use std::fmt;
 
-#[derive(Clone, Copy, PartialEq, Eq, Debug)]
+// A reason, by the number that stands for it.
+#[derive(Clone, Copy, PartialEq, Eq, Hash, Debug)]
 pub enum Refusal {
     OddPass = 1,
     OverOne = 2,
@@ -53,11 +55,13 @@ impl Refusal {
     }
 }
 
+// A refusal is printed as its sentence.
 impl fmt::Display for Refusal {
     ghost output = { λ r. Some (sentence r) };
 
     fn fmt<W: fmt::Write>(&self, f: &mut fmt::Formatter<W>) -> fmt::Result {
-        let reason = self.sentence();
-        write!(f, "{reason}")
+        f.write_str(self.sentence())
     }
 }
+
+impl Error for Refusal {}
