@@ -7,16 +7,19 @@ ghost use Rattle.plans.specs.Passes.{passes};
 use crate::plan::Plan;
 
 // A declined call changes nothing.
+#[tactic(auto, using(crate::proofs::Answering::after_declined))]
 pub fn declined_changes_nothing()
     ensures { DeclinedChangesNothing }
 {}
 
 // Dropping the last pass after an accepted add gives the plan back.
+#[tactic(auto, using(crate::proofs::Lawful::drop_undoes_add_lem))]
 pub fn drop_undoes_add()
     ensures { DropUndoesAdd }
 {}
 
 // An accepted settle settles the part it names, and nothing else.
+#[tactic(auto, using(crate::proofs::Lawful::settle_changes_one_place_lem))]
 pub fn settle_changes_one_place()
     ensures { SettleChangesOnePlace }
 {}

@@ -10,6 +10,7 @@ use refusals::Refusal;
 
 impl Plan {
     // A plan with no pass.
+    #[tactic(auto, unfolding(crate::specs::Passes::passes))]
     pub fn make() -> Plan
         ensures { passes result ≡ [] }
     {
@@ -21,6 +22,7 @@ impl Plan {
     }
 
     // Appends a pass of open parts with these forecasts.
+    #[tactic(auto, using(crate::proofs::Answering::after_declined))]
     pub fn add(&mut self, forecasts: &[u32]) -> Result<(), Refusal>
         ensures reply { result ≡ reply (Add forecasts.now) (passes self.old) }
         ensures after { passes self.new ≡ after (Add forecasts.now) (passes self.old) }
@@ -54,8 +56,9 @@ impl Plan {
     }
 
     // Whether a pass with these forecasts may be added, and if not, why.
+    #[tactic(auto, using(crate::proofs::Fitting::parts_few), unfolding(crate::specs::Model::reply))]
     fn admits(&self, forecasts: &[u32]) -> Result<(), Refusal>
-        ensures { MatchResult result (λ _. reply (Add forecasts.now) (passes self.now) ≡ Ok tt) (λ e. Declined (Add forecasts.now) (passes self.now) e) }
+        ensures { result ≡ reply (Add forecasts.now) (passes self.now) }
     {
         check_pass(forecasts, self.parts())
     }
@@ -104,6 +107,7 @@ impl Plan {
     }
 
     // Keeps the first n passes, and forgets the others.
+    #[tactic(auto, using(crate::proofs::Shape::count_is_length, crate::proofs::Shape::rising_first, crate::proofs::Shape::last_end_first, crate::proofs::Shape::start_within, crate::proofs::Shape::passes_first), unfolding(crate::specs::Passes::passes))]
     fn keep(&mut self, n: usize)
         requires { n ≤ length (passes self.old) }
         ensures { passes self.new ≡ take n (passes self.old) }

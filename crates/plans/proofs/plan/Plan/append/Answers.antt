@@ -1,5 +1,5 @@
 -- One more pass keeps the invariant, and gives the plan that an accepted add leaves.
-use Rattle.std.proofs.Common.{◌+◌, ◌≤◌, length, ap, ◌∙◌, arith, length-set}
+use Rattle.std.proofs.Common.{length, ap, ◌∙◌, arith, length-set}
 use Rattle.plans.specs.Passes.{passes}
 use Rattle.plans.proofs.Adding.{count_below_places, end_within, length_added, at_most_one_added, rising_added, last_end_added, passes_added}
 use Rattle.plans.proofs.plan.Plan.append.Goals as goal
@@ -16,20 +16,14 @@ invariant_of-self c =
     let fs = c.args.forecasts.now in
     let parts = c.append.ensures.parts in
     let ends = c.append.ensures.ends in
-    let whole = ap length parts ∙ length_added m fs c.requires in
-    let ended = ap length ends ∙ length-set _ _ _ ∙ m.ended in
-    let few : m.count + 1 ≤ 512 = omega (arith, count_below_places m fs c.requires) in
-    let steps = rising_added m fs c.requires in
-    let full = last_end_added m fs c.requires in
-    let fits = at_most_one_added m fs c.requires in
     record {
-      whole = whole;
-      ended = ended;
-      few = few;
+      whole = ap length parts ∙ length_added m fs c.requires;
+      ended = ap length ends ∙ length-set _ _ _ ∙ m.ended;
+      few = omega (arith, count_below_places m fs c.requires);
       room = end_within m fs c.requires;
-      steps = simp ends steps;
-      full = simp ends full;
-      fits = simp parts fits;
+      steps = simp ends (rising_added m fs c.requires);
+      full = simp ends (last_end_added m fs c.requires);
+      fits = simp parts (at_most_one_added m fs c.requires);
     }
 
 pub returns : goal.returns

@@ -1,5 +1,5 @@
 -- A settled part keeps the invariant, and gives the plan that an accepted settle leaves.
-use Rattle.std.proofs.Common.{◌≤◌, length, sym, ap, ◌∙◌, arith}
+use Rattle.std.proofs.Common.{length, sym, ap, ◌∙◌, arith}
 use Rattle.plans.specs.Model.{Settle}
 use Rattle.plans.specs.Parts.{settled}
 use Rattle.plans.specs.Passes.{passes}
@@ -11,22 +11,17 @@ use Rattle.plans.proofs.plan.Plan.settle_at.Goals as goal
 pub invariant_of-self : goal.invariant_of-self
 invariant_of-self c =
     let m = c.args.self.now in
-    let up = c.args.up in
-    let k = c.args.k in
+    let by = settled c.args.up in
     let parts = c.settle.ensures.parts in
     let ends = c.settle.ensures.ends in
-    let w : m.used ≤ length m.table.parts = omega (arith, m.room, m.whole) in
-    let whole = ap length parts ∙ length_changed (settled up) k m.table.parts ∙ m.whole in
-    let ended = ap length ends ∙ m.ended in
-    let fits = at_most_one_changed (settled up) (λ _ h. h) m.table.parts k m.used w m.fits in
     record {
-      whole = whole;
-      ended = ended;
+      whole = ap length parts ∙ length_changed by c.args.k m.table.parts ∙ m.whole;
+      ended = ap length ends ∙ m.ended;
       few = m.few;
       room = m.room;
       steps = simp ends m.steps;
       full = simp ends m.full;
-      fits = simp parts fits;
+      fits = simp parts (at_most_one_changed by (λ _ h. h) m.table.parts c.args.k m.used (omega (arith, m.room, m.whole)) m.fits);
     }
 
 pub returns : goal.returns
