@@ -19,10 +19,6 @@ after_accepted c m r = ap (λ t. if_accepted t (done c m) m) r
 pub declined : (c : Change) (m : Model) (e : Refusal) → reply c m ≡ Err e → Declined c m e
 declined c m e r = record { answer = r; same = after_declined c m e r }
 
-pub answered : (c : Change) (m : Model) (r : Result Unit Refusal) → r ≡ reply c m → MatchResult r (λ _. reply c m ≡ Ok tt) (λ e. Declined c m e)
-answered c m (Ok tt) h = sym h
-answered c m (Err e) h = declined c m e (sym h)
-
 passed : (b : Bool) (e : Refusal) (r : Result Unit Refusal) → cond b (Err e) r ≡ Ok tt → (b ≡ false) × (r ≡ Ok tt)
 passed true e r h = absurd (let z : ◌≡◌ {A = ℕ} 0 1 = cc in omega arith)
 passed false e r h = (refl, h)

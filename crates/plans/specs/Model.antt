@@ -1,5 +1,5 @@
 -- A plan as a list of passes, and what each call answers and does to it.
-use Rattle.std.specs.Prelude.{◌≡◌, ℕ, zero, suc, ◌+◌, ◌-◌, ◌<◌, ◌≤◌, Bool, cond, ◌||◌, List, [], ◌∷◌, ◌++◌, map, length, take, Some, None, Ok, Err, Option, Result, ◌==◌, nat_lt, slice_index_or}
+use Rattle.std.specs.Prelude.{◌≡◌, ℕ, zero, suc, ◌+◌, ◌-◌, ◌<◌, ◌≤◌, Bool, if◌then◌else◌, ◌||◌, List, [], ◌∷◌, ◌++◌, map, length, take, Some, None, Ok, Err, Option, Result, ◌==◌, nat_lt, slice_index_or}
 use Rattle.std.specs.List.{slice_get}
 use Rattle.refusals.specs.declared.Refusal.{Refusal}
 use Rattle.refusals.specs.declared.Refusal.TheVariants.{OddPass, OverOne, FullPlan, NoSuchPlace, AlreadySettled, NoPass}
@@ -43,14 +43,14 @@ pub record IsPass (m : Model) (p : ℕ) (xs : List Part) : Type 0 where
 -- The answer `r` where there is a part and it is open, else why the call is declined.
 abbrev pub at_place : Option Part → Result Unit Refusal → Result Unit Refusal
 at_place None r = Err NoSuchPlace
-at_place (Some x) r = cond (is_open x.standing) r (Err AlreadySettled)
+at_place (Some x) r = if is_open x.standing then r else Err AlreadySettled
 
 -- The answer to adding a pass with these forecasts where a plan has n parts.
 abbrev pub add_reply : List ℕ → ℕ → Result Unit Refusal
 add_reply fs n =
-    cond (length fs == 0 || nat_lt 8 (length fs)) (Err OddPass)
-    (cond (over_one_lem fs) (Err OverOne)
-    (cond (nat_lt 512 (n + length fs)) (Err FullPlan) (Ok tt)))
+    if length fs == 0 || nat_lt 8 (length fs) then Err OddPass else
+    (if over_one_lem fs then Err OverOne else
+    (if nat_lt 512 (n + length fs) then Err FullPlan else Ok tt))
 
 -- The answer to a drop.
 abbrev pub drop_reply : Model → Result Unit Refusal
@@ -60,7 +60,7 @@ drop_reply (xs ∷ m) = Ok tt
 -- What a call answers.
 unfoldable pub reply : Change → Model → Result Unit Refusal
 reply (Add fs) m = add_reply fs (size m)
-reply (Amend p i f) m = at_place (place m p i) (cond (nat_lt one f) (Err OverOne) (Ok tt))
+reply (Amend p i f) m = at_place (place m p i) (if nat_lt one f then Err OverOne else Ok tt)
 reply (Settle p i up) m = at_place (place m p i) (Ok tt)
 reply Drop m = drop_reply m
 

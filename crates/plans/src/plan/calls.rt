@@ -82,6 +82,7 @@ impl Plan {
     }
 
     // The number of the last pass, or why there is none.
+    #[tactic(auto, using(crate::proofs::Finding::last_before))]
     fn last_pass(&self) -> Result<usize, Refusal>
         ensures { MatchResult result (λ n. IsLast self.now n) (λ e. Declined Drop (passes self.now) e) }
     {
