@@ -1,5 +1,5 @@
 -- What a call's answer says of the plan before and after it.
-use Rattle.std.proofs.Common.{◌≡◌, ℕ, ◌+◌, ◌<◌, ◌≤◌, Bool, true, false, cond, ◌||◌, eqb, ltb, List, [], ◌∷◌, length, Some, None, Ok, Err, Option, Result, sym, refl, ap, ◌∙◌, arith, MatchResult}
+use Rattle.std.proofs.Common.{◌≡◌, ℕ, ◌+◌, ◌<◌, ◌≤◌, Bool, true, false, cond, ◌||◌, eqb, ltb, List, [], ◌∷◌, length, Some, None, Ok, Err, Option, Result, refl, ap, ◌∙◌, arith}
 use Rattle.std.proofs.lemmas.Bool.{cond-true, cond-false, or_parts, eqb-false, ltb-false}
 use Rattle.refusals.specs.declared.Refusal.{Refusal}
 use Rattle.refusals.specs.declared.Refusal.TheVariants.{OddPass, OverOne, FullPlan, NoSuchPlace, AlreadySettled, NoPass}
@@ -20,7 +20,7 @@ pub declined : (c : Change) (m : Model) (e : Refusal) → reply c m ≡ Err e �
 declined c m e r = record { answer = r; same = after_declined c m e r }
 
 passed : (b : Bool) (e : Refusal) (r : Result Unit Refusal) → cond b (Err e) r ≡ Ok tt → (b ≡ false) × (r ≡ Ok tt)
-passed true e r h = absurd (let z : ◌≡◌ {A = ℕ} 0 1 = cc in omega arith)
+passed true e r h = absurd (cc)
 passed false e r h = (refl, h)
 
 -- What an accepted add says of its forecasts.
@@ -54,10 +54,10 @@ settle_open p i up m x e o = ap (λ o. at_place o (Ok tt)) e ∙ cond-true (is_o
 
 opened : (b : Bool) (e : Refusal) (r : Result Unit Refusal) → cond b r (Err e) ≡ Ok tt → b ≡ true
 opened true e r h = refl
-opened false e r h = absurd (let z : ◌≡◌ {A = ℕ} 0 1 = cc in omega arith)
+opened false e r h = absurd (cc)
 
 open_at : (o : Option Part) → at_place o (Ok tt) ≡ Ok tt → (x : Part) × (o ≡ Some x) × (is_open x.standing ≡ true)
-open_at None h = absurd (let z : ◌≡◌ {A = ℕ} 0 1 = cc in omega arith)
+open_at None h = absurd (cc)
 open_at (Some x) h = (x, refl, opened (is_open x.standing) AlreadySettled (Ok tt) h)
 
 pub settle_accepted : (p i : ℕ) (up : Bool) (m : Model) → reply (Settle p i up) m ≡ Ok tt → (x : Part) × (place m p i ≡ Some x) × (is_open x.standing ≡ true)

@@ -1,7 +1,8 @@
 -- A list cut into pieces by their ends.
 use Rattle.std.proofs.Common.{◌≡◌, ℕ, zero, suc, ◌+◌, ◌-◌, ◌<◌, ◌≤◌, true, ◌&&◌, ltb, leb, List, [], ◌∷◌, ◌++◌, length, get_or, take, drop, sym, refl, ap, ◌∙◌, add-zero, arith}
-use Rattle.std.proofs.lemmas.List.{length-take-le, length-drop, take-take, drop-take}
+use Rattle.std.proofs.lemmas.List.{take-take, drop-take}
 use Rattle.std.proofs.lemmas.Bool.{and_parts, and_from, ltb-true, leb-true, lt-ltb, le-leb}
+use Rattle.std.proofs.lemmas.List.Edits.{length-between}
 use Rattle.plans.specs.declared.part.Part.{Part}
 use Rattle.plans.specs.Cuts.{cut, rising, last_end}
 use Rattle.plans.specs.Lists.{changed_at}
@@ -34,9 +35,6 @@ rising_at s [] p h l = absurd (omega arith)
 rising_at s (e ∷ es) zero h l = let r = rising_parts s e es h in let t = last_end_above e es r.2 in (r.0, r.1, omega arith)
 rising_at s (e ∷ es) (suc p) h l = rising_at e es p (rising_parts s e es h).2 (omega arith)
 
-pub length_piece : {X : Type 0} (s e : ℕ) (xs : List X) → e ≤ length xs → length (take (e - s) (drop s xs)) ≡ e - s
-length_piece s e xs l = length-take-le (e - s) (drop s xs) (rw length-drop (omega arith))
-
 pub length_cut : {X : Type 0} (s : ℕ) (es : List ℕ) (xs : List X) → length (cut s es xs) ≡ length es
 length_cut s [] xs = refl
 length_cut s (e ∷ es) xs = ap suc (length_cut e es xs)
@@ -54,7 +52,7 @@ size_cut s (e ∷ es) xs h l =
     let r = rising_parts s e es h in
     let t = last_end_above e es r.2 in
     let ih = size_cut e es xs r.2 l in
-    let n = length_piece s e xs (omega arith) in
+    let n = length-between xs s e (omega arith) in
     omega arith
 
 -- One piece more.

@@ -1,11 +1,10 @@
 -- What the plan's reading functions find.
-use Rattle.std.proofs.Common.{◌≡◌, ℕ, ◌+◌, ◌-◌, ◌<◌, ◌≤◌, length, take, get_or, None, Some, Option, Result, MatchOption, MatchResult, ◌∷◌, sym, ap, ◌∙◌, inl, inr, arith}
+use Rattle.std.proofs.Common.{◌≡◌, ℕ, ◌-◌, ◌<◌, ◌≤◌, length, take, None, Some, Option, MatchOption, MatchResult, sym, ap, ◌∙◌, inl, inr, arith}
 use Rattle.std.specs.List.{slice_get, range_with_len}
 use Rattle.std.specs.Option.{SomeIff, ok_or}
 use Rattle.std.proofs.lemmas.Bool.{cases_lt}
 use Rattle.std.proofs.lemmas.List.FromFn.{length-range_with_len, get_or-range_with_len}
 use Rattle.std.proofs.lemmas.Option.{slice_get-get_or, slice_get_within, get_or_from_slice_get}
-use Rattle.refusals.specs.declared.Refusal.{Refusal}
 use Rattle.refusals.specs.declared.Refusal.TheVariants.{NoPass}
 use Rattle.plans.specs.declared.plan.Plan.{Plan}
 use Rattle.plans.specs.Found.{Holds, HoldsPart, IsLast, Declined}
@@ -20,7 +19,7 @@ pub part_among : (m : Plan) (p i a b : ℕ) (r : Option ℕ) → Holds m p a b �
 part_among m p i a b None h e =
     let n = length-range_with_len a (b - a) in
     elim (cases_lt i (b - a)) [
-      | inl l ↦ let s = slice_get-get_or (range_with_len a (b - a)) i 0 (omega arith) in absurd (let z : ◌≡◌ {A = ℕ} 0 1 = cc in omega arith)
+      | inl l ↦ let s = slice_get-get_or (range_with_len a (b - a)) i 0 (omega arith) in absurd (cc)
       | inr g ↦ place_outside m p i a b h (omega arith)
     ]
 part_among m p i a b (Some k) h e =

@@ -1,6 +1,6 @@
 -- Every plan keeps the limits.
-use Rattle.std.proofs.Common.{◌≡◌, ℕ, zero, suc, ◌+◌, ◌-◌, ◌<◌, ◌≤◌, true, List, [], ◌∷◌, length, get_or, take, drop, sym, ◌∙◌, subst, arith}
-use Rattle.std.proofs.lemmas.List.{get_or-take, get_or-drop}
+use Rattle.std.proofs.Common.{◌≡◌, ℕ, zero, suc, ◌+◌, ◌<◌, ◌≤◌, true, List, [], ◌∷◌, length, get_or, take, slice_range, sym, subst, arith}
+use Rattle.std.proofs.lemmas.List.Edits.{length-between, get_or-between}
 use Rattle.plans.specs.declared.part.Part.{Part}
 use Rattle.plans.specs.declared.plan.Plan.{Plan}
 use Rattle.plans.specs.Cuts.{cut, rising, last_end}
@@ -8,7 +8,7 @@ use Rattle.plans.specs.Limits.{All, PassLength, AtMostOne, WithinLimits}
 use Rattle.plans.specs.Model.{size}
 use Rattle.plans.specs.Parts.{open_part}
 use Rattle.plans.specs.Passes.{passes}
-use Rattle.plans.proofs.Cutting.{rising_parts, last_end_above, length_piece}
+use Rattle.plans.proofs.Cutting.{rising_parts, last_end_above}
 use Rattle.plans.proofs.Shape.{used_is_size, last_end_within}
 
 all_from_places : {A : Type 0} (P : A → Type 0) (d : A) (xs : List A) → ((k : ℕ) → k < length xs → P (get_or xs k d)) → All P xs
@@ -21,10 +21,9 @@ all_cut P d s [] xs r w h = tt
 all_cut P d s (e ∷ es) xs r w h =
     let up = rising_parts s e es r in
     let above = last_end_above e es up.2 in
-    let n = length_piece s e xs (omega arith) in (
-      all_from_places P d (take (e - s) (drop s xs)) (λ k l.
-          let lt : k < e - s = omega arith in
-          subst P (sym (get_or-take (e - s) (drop s xs) k d lt ∙ get_or-drop s xs k d)) (h (s + k) (omega arith))),
+    let n = length-between xs s e (omega arith) in (
+      all_from_places P d (slice_range xs s e) (λ k l.
+          subst P (sym (get_or-between xs s e k d (omega arith))) (h (s + k) (omega arith))),
       all_cut P d e es xs up.2 w h,
     )
 
@@ -33,7 +32,7 @@ lengths_cut s [] xs r w = tt
 lengths_cut s (e ∷ es) xs r w =
     let up = rising_parts s e es r in
     let above = last_end_above e es up.2 in
-    let n = length_piece s e xs (omega arith) in
+    let n = length-between xs s e (omega arith) in
     ((omega arith, omega arith), lengths_cut e es xs up.2 w)
 
 module _ (m : Plan) where

@@ -1,6 +1,6 @@
 -- Lists with another written over them from some place on.
-use Rattle.std.proofs.Common.{◌≡◌, ℕ, ◌+◌, ◌-◌, ◌<◌, ◌≤◌, List, [], ◌∷◌, ◌++◌, length, get_or, take, drop, set, sym, refl, ap, ◌∙◌, add-zero, arith}
-use Rattle.std.proofs.lemmas.List.{drop-set-lt, take_more_set, append_assoc, drop_more, set_at, length-append, length-take, length-take-le, length_push, length-drop, take-append-drop, take_at, drop_at, get_or_append_left, get_or-append_right, get_or-take}
+use Rattle.std.proofs.Common.{◌≡◌, ℕ, ◌+◌, ◌-◌, ◌<◌, ◌≤◌, List, ◌∷◌, ◌++◌, length, get_or, take, drop, set, refl, ap, ◌∙◌, arith}
+use Rattle.std.proofs.lemmas.List.{drop-set-lt, take_more_set, append_assoc, length-append, length-take-le, length-drop, take_at, drop_at, get_or_append_left, get_or-append_right, get_or-take}
 use Rattle.std.proofs.lemmas.Grind.{common_steps}
 use Rattle.plans.specs.Lists.{laid}
 

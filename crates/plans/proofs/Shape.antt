@@ -1,7 +1,8 @@
 -- What the invariant of a plan says of its passes and of the places of their parts.
 use Rattle.std.proofs.Common.{◌≡◌, ℕ, suc, ◌+◌, ◌-◌, ◌<◌, ◌≤◌, true, List, ◌∷◌, length, get_or, take, drop, Some, None, sym, refl, ap, ◌∙◌, ap₂, arith}
 use Rattle.std.specs.List.{slice_get}
-use Rattle.std.proofs.lemmas.List.{length-take-le, get_or-take, get_or-drop, take-take}
+use Rattle.std.proofs.lemmas.List.{length-take-le, get_or-take, take-take}
+use Rattle.std.proofs.lemmas.List.Edits.{length-between, get_or-between}
 use Rattle.std.proofs.lemmas.Option.{slice_get-get_or, slice_get_past}
 use Rattle.plans.specs.declared.part.Part.{Part}
 use Rattle.plans.specs.declared.plan.Plan.{Plan}
@@ -10,7 +11,7 @@ use Rattle.plans.specs.Found.{Holds, HoldsPart}
 use Rattle.plans.specs.Lists.{changed_at}
 use Rattle.plans.specs.Model.{place, size}
 use Rattle.plans.specs.Passes.{passes}
-use Rattle.plans.proofs.Cutting.{last_end_above, rising_at, length_piece, length_cut, get_or-cut, size_cut, cut_take, rising_take, last_end_take, last_end_take_below, cut_changed}
+use Rattle.plans.proofs.Cutting.{last_end_above, rising_at, length_cut, get_or-cut, size_cut, cut_take, rising_take, last_end_take, last_end_take_below, cut_changed}
 use Rattle.plans.proofs.Placing.{place_in}
 
 -- The ends of the passes of a plan.
@@ -68,7 +69,7 @@ module _ (m : Plan) where
 
   pub place_outside : (p i a b : ℕ) → Holds m p a b → b ≤ a + i → place (passes m) p i ≡ None
   place_outside p i a b h l =
-      let n = length_piece a b m.table.parts (omega (arith, h.room, m.whole)) in
+      let n = length-between m.table.parts a b (omega (arith, h.room, m.whole)) in
       place_in (passes m) p i h.within
       ∙ ap (λ xs. slice_get xs i) h.is
       ∙ slice_get_past (take (b - a) (drop a m.table.parts)) i (omega arith)
@@ -78,12 +79,12 @@ module _ (m : Plan) where
       let a = get_or (0 ∷ m.table.ends) p 0 in
       let b = get_or m.table.ends p 0 in
       let all = holds p (omega (arith, count_is_length, h.within)) in
-      let n = length_piece a b m.table.parts (omega (arith, all.room, m.whole)) in
-      let j : i < b - a = omega (arith, h.is, h.before) in
+      let n = length-between m.table.parts a b (omega (arith, all.room, m.whole)) in
+      let j : a + i < b = omega (arith, h.is, h.before) in
       place_in (passes m) p i h.within
       ∙ ap (λ xs. slice_get xs i) all.is
       ∙ slice_get-get_or (take (b - a) (drop a m.table.parts)) i d (omega arith)
-      ∙ ap (λ x. Some x) (get_or-take (b - a) (drop a m.table.parts) i d j ∙ get_or-drop a m.table.parts i d ∙ ap (λ t. get_or m.table.parts t d) (sym h.is))
+      ∙ ap (λ x. Some x) (get_or-between m.table.parts a b i d (omega arith) ∙ ap (λ t. get_or m.table.parts t d) (sym h.is))
 
   pub passes_changed : (g : Part → Part) (p i k : ℕ) → HoldsPart m p i k →
       cut 0 (ends m) (changed_at k g m.table.parts) ≡ changed_at p (changed_at i g) (passes m)
