@@ -1,7 +1,9 @@
 -- What one more pass does to a plan.
-use Rattle.std.proofs.Common.{◌≡◌, ℕ, zero, suc, ◌+◌, ◌-◌, ◌<◌, ◌≤◌, true, false, ltb, List, [], ◌∷◌, ◌++◌, map, length, get_or, take, drop, set, Ok, sym, ap, ◌∙◌, inl, inr, arith}
-use Rattle.std.proofs.lemmas.Bool.{or_parts, ltb-false, cases_lt}
-use Rattle.std.proofs.lemmas.List.{take_more_set, length-map, get_or-map}
+use Rattle.std.proofs.Common.{◌≡◌, ℕ, zero, suc, ◌+◌, ◌-◌, ◌<◌, ◌≤◌, true, false, List, [], ◌∷◌, ◌++◌, map, length, get_or, take, drop, set, Ok, sym, ap, ◌∙◌, inl, inr, arith}
+use Rattle.std.proofs.lemmas.Bool.{cases_lt}
+use Rattle.std.proofs.lemmas.List.{take_more_set, length-map}
+use Rattle.std.proofs.lemmas.Grind.{common_steps}
+use Rattle.std.proofs.lemmas.Bool.Decides.{nat_tests}
 use Rattle.plans.specs.declared.part.Part.{Part}
 use Rattle.plans.specs.declared.plan.Plan.{Plan}
 use Rattle.plans.specs.Cuts.{last_end, cut, rising, AtMostOne}
@@ -16,19 +18,14 @@ use Rattle.plans.proofs.Shape.{used_is_size, count_below_used}
 
 none_over_one : (fs : List ℕ) (j : ℕ) → over_one_lem fs ≡ false → j < length fs → get_or fs j 0 ≤ one
 none_over_one [] j o l = absurd (omega arith)
-none_over_one (f ∷ fs) zero o l = ltb-false one f (or_parts (ltb one f) (over_one_lem fs) o).0
-none_over_one (f ∷ fs) (suc j) o l = none_over_one fs j (or_parts (ltb one f) (over_one_lem fs) o).1 (omega arith)
+none_over_one (f ∷ fs) zero o l = grind (arith, common_steps, nat_tests)
+none_over_one (f ∷ fs) (suc j) o l = grind (arith, common_steps, nat_tests, none_over_one fs j)
 
 at_most_one_laid : (xs : List Part) (at : ℕ) (fs : List ℕ) → at ≤ length xs → AtMostOne xs at → over_one_lem fs ≡ false → AtMostOne (laid xs at (map open_part fs)) (at + length fs)
 at_most_one_laid xs at fs w f o k d l =
-    let n = length-map fs open_part in
     elim (cases_lt k at) [
-      | inl a ↦ let e = ap (λ (x : Part). x.forecast) (get_or-laid_before xs at (map open_part fs) k d w a) in let h = f k d a in omega arith
-      | inr b ↦
-          let j : k - at < length fs = omega arith in
-          let e = ap (λ (x : Part). x.forecast) (get_or-laid_in xs at (map open_part fs) k d w b (omega arith) ∙ get_or-map open_part fs (k - at) 0 d j) in
-          let h = none_over_one fs (k - at) o j in
-          omega arith
+      | inl a ↦ grind (arith, get_or-laid_before xs at (map open_part fs) k d, f k d)
+      | inr b ↦ grind (arith, common_steps, get_or-laid_in xs at (map open_part fs) k d, none_over_one fs (k - at))
     ]
 
 module _ (m : Plan) (fs : List ℕ) (accepted : reply (Add fs) (passes m) ≡ Ok tt) where
@@ -42,9 +39,7 @@ module _ (m : Plan) (fs : List ℕ) (accepted : reply (Add fs) (passes m) ≡ Ok
   end_within = omega (arith, used_is_size m, admitted.room)
 
   pub length_added : length (laid m.table.parts m.used (map open_part fs)) ≡ 512
-  length_added =
-      let n = length-map fs open_part in
-      length_laid m.table.parts m.used (map open_part fs) (omega (arith, end_within, m.whole)) ∙ m.whole
+  length_added = grind (arith, common_steps, nat_tests, length_laid, end_within, m.whole)
 
   pub at_most_one_added : AtMostOne (laid m.table.parts m.used (map open_part fs)) (m.used + length fs)
   at_most_one_added = at_most_one_laid m.table.parts m.used fs (omega (arith, m.room, m.whole)) m.fits admitted.fit
@@ -53,12 +48,10 @@ module _ (m : Plan) (fs : List ℕ) (accepted : reply (Add fs) (passes m) ≡ Ok
   ends_added = take_more_set m.table.ends m.count (m.used + length fs) (omega (arith, count_below_places, m.ended))
 
   pub rising_added : rising 0 (take (m.count + 1) (set m.table.ends m.count (m.used + length fs))) ≡ true
-  rising_added =
-      ap (rising 0) ends_added
-      ∙ rising_push 0 (take m.count m.table.ends) (m.used + length fs) m.steps (omega (arith, m.full, admitted.some)) (omega (arith, m.full, admitted.few))
+  rising_added = grind (arith, common_steps, nat_tests, ends_added, rising_push, m.steps, m.full, admitted)
 
   pub last_end_added : last_end 0 (take (m.count + 1) (set m.table.ends m.count (m.used + length fs))) ≡ m.used + length fs
-  last_end_added = ap (last_end 0) ends_added ∙ last_end_push 0 (take m.count m.table.ends) (m.used + length fs)
+  last_end_added = grind (arith, common_steps, nat_tests, ends_added, last_end_push)
 
   pub passes_added : cut 0 (take (m.count + 1) (set m.table.ends m.count (m.used + length fs))) (laid m.table.parts m.used (map open_part fs)) ≡ after (Add fs) (passes m)
   unfolding passes

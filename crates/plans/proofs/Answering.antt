@@ -1,8 +1,10 @@
 -- What a call's answer says of the plan before and after it.
-use Rattle.std.proofs.Common.{◌≡◌, ℕ, ◌+◌, ◌<◌, ◌≤◌, Bool, true, false, cond, ◌||◌, eqb, ltb, List, [], ◌∷◌, length, Some, None, Ok, Err, Option, Result, refl, ap, ◌∙◌, arith}
-use Rattle.std.proofs.lemmas.Bool.{cond-true, cond-false, or_parts, eqb-false, ltb-false}
+use Rattle.std.proofs.Common.{◌≡◌, ℕ, ◌+◌, ◌<◌, ◌≤◌, Bool, true, false, cond, List, [], ◌∷◌, length, Some, None, Ok, Err, Option, Result, refl, ap, ◌∙◌, arith}
+use Rattle.std.proofs.lemmas.Bool.{cond-true, cond-false}
+use Rattle.std.proofs.lemmas.Grind.{common_steps}
+use Rattle.std.proofs.lemmas.Bool.Decides.{nat_tests}
 use Rattle.refusals.specs.declared.Refusal.{Refusal}
-use Rattle.refusals.specs.declared.Refusal.TheVariants.{OddPass, OverOne, FullPlan, NoSuchPlace, AlreadySettled, NoPass}
+use Rattle.refusals.specs.declared.Refusal.TheVariants.{NoSuchPlace, AlreadySettled, NoPass}
 use Rattle.plans.specs.declared.part.Part.{Part}
 use Rattle.plans.specs.Found.{Declined}
 use Rattle.plans.specs.Model.{Model, Change, Add, Settle, Drop, size, place, at_place, reply, done, if_accepted, after}
@@ -32,13 +34,7 @@ pub record Admitted (fs : List ℕ) (m : Model) : Type 0 where
 
 pub add_accepted : (fs : List ℕ) (m : Model) → reply (Add fs) m ≡ Ok tt → Admitted fs m
 unfolding reply
-add_accepted fs m h =
-    let a = passed (eqb (length fs) 0 || ltb 8 (length fs)) OddPass _ h in
-    let b = passed (over_one_lem fs) OverOne _ a.1 in
-    let c = passed (ltb 512 (size m + length fs)) FullPlan _ b.1 in
-    let o = or_parts (eqb (length fs) 0) (ltb 8 (length fs)) a.0 in
-    let z = eqb-false (length fs) 0 o.0 in
-    record { some = omega arith; few = ltb-false 8 (length fs) o.1; fit = b.0; room = ltb-false 512 (size m + length fs) c.0 }
+add_accepted fs m h = grind (arith, common_steps, nat_tests)
 
 pub settle_nowhere : (p i : ℕ) (up : Bool) (m : Model) → place m p i ≡ None → reply (Settle p i up) m ≡ Err NoSuchPlace
 unfolding reply

@@ -1,6 +1,8 @@
 -- Every plan keeps the limits.
 use Rattle.std.proofs.Common.{◌≡◌, ℕ, zero, suc, ◌+◌, ◌<◌, ◌≤◌, true, List, [], ◌∷◌, length, get_or, take, slice_range, sym, subst, arith}
 use Rattle.std.proofs.lemmas.List.Edits.{length-between, get_or-between}
+use Rattle.std.proofs.lemmas.Grind.{common_steps}
+use Rattle.std.proofs.lemmas.Bool.Decides.{nat_tests}
 use Rattle.plans.specs.declared.part.Part.{Part}
 use Rattle.plans.specs.declared.plan.Plan.{Plan}
 use Rattle.plans.specs.Cuts.{cut, rising, last_end}
@@ -29,11 +31,7 @@ all_cut P d s (e ∷ es) xs r w h =
 
 lengths_cut : (s : ℕ) (es : List ℕ) (xs : List Part) → rising s es ≡ true → last_end s es ≤ length xs → All PassLength (cut s es xs)
 lengths_cut s [] xs r w = tt
-lengths_cut s (e ∷ es) xs r w =
-    let up = rising_parts s e es r in
-    let above = last_end_above e es up.2 in
-    let n = length-between xs s e (omega arith) in
-    ((omega arith, omega arith), lengths_cut e es xs up.2 w)
+lengths_cut s (e ∷ es) xs r w = (grind (arith, common_steps, nat_tests, length-between, last_end_above), lengths_cut e es xs (grind (arith, common_steps, nat_tests)) w)
 
 module _ (m : Plan) where
   pub parts_few : size (passes m) ≤ 512

@@ -1,9 +1,10 @@
 -- What the invariant of a plan says of its passes and of the places of their parts.
-use Rattle.std.proofs.Common.{◌≡◌, ℕ, suc, ◌+◌, ◌-◌, ◌<◌, ◌≤◌, true, List, ◌∷◌, length, get_or, take, drop, Some, None, sym, refl, ap, ◌∙◌, ap₂, arith}
+use Rattle.std.proofs.Common.{◌≡◌, ℕ, suc, ◌+◌, ◌<◌, ◌≤◌, true, List, ◌∷◌, length, get_or, take, slice_range, Some, None, sym, refl, ap, ◌∙◌, ap₂, arith}
 use Rattle.std.specs.List.{slice_get}
 use Rattle.std.proofs.lemmas.List.{length-take-le, get_or-take, take-take}
 use Rattle.std.proofs.lemmas.List.Edits.{length-between, get_or-between}
 use Rattle.std.proofs.lemmas.Option.{slice_get-get_or, slice_get_past}
+use Rattle.std.proofs.lemmas.Grind.{common_steps}
 use Rattle.plans.specs.declared.part.Part.{Part}
 use Rattle.plans.specs.declared.plan.Plan.{Plan}
 use Rattle.plans.specs.Cuts.{last_end, cut, rising}
@@ -56,7 +57,7 @@ module _ (m : Plan) where
         within = omega (arith, count_is_length);
         is =
             get_or-cut 0 (ends m) m.table.parts p (omega arith)
-            ∙ ap₂ (λ s e. take (e - s) (drop s m.table.parts)) a b;
+            ∙ ap₂ (λ s e. slice_range m.table.parts s e) a b;
         some = omega arith;
         few = omega arith;
         room = omega (arith, m.full, m.room);
@@ -68,11 +69,7 @@ module _ (m : Plan) where
   holds_between p a b l e f = rw (e, f ∙ end_at p l) (holds p l)
 
   pub place_outside : (p i a b : ℕ) → Holds m p a b → b ≤ a + i → place (passes m) p i ≡ None
-  place_outside p i a b h l =
-      let n = length-between m.table.parts a b (omega (arith, h.room, m.whole)) in
-      place_in (passes m) p i h.within
-      ∙ ap (λ xs. slice_get xs i) h.is
-      ∙ slice_get_past (take (b - a) (drop a m.table.parts)) i (omega arith)
+  place_outside p i a b h l = grind (arith, common_steps, place_in, slice_get_past, h.is, h.within, h.room, m.whole)
 
   pub place_held : (p i k : ℕ) (d : Part) → HoldsPart m p i k → place (passes m) p i ≡ Some (get_or m.table.parts k d)
   place_held p i k d h =
@@ -83,8 +80,8 @@ module _ (m : Plan) where
       let j : a + i < b = omega (arith, h.is, h.before) in
       place_in (passes m) p i h.within
       ∙ ap (λ xs. slice_get xs i) all.is
-      ∙ slice_get-get_or (take (b - a) (drop a m.table.parts)) i d (omega arith)
-      ∙ ap (λ x. Some x) (get_or-between m.table.parts a b i d (omega arith) ∙ ap (λ t. get_or m.table.parts t d) (sym h.is))
+      ∙ slice_get-get_or (slice_range m.table.parts a b) i d (omega arith)
+      ∙ ap (λ x. Some x) (get_or-between m.table.parts a b i d j ∙ ap (λ t. get_or m.table.parts t d) (sym h.is))
 
   pub passes_changed : (g : Part → Part) (p i k : ℕ) → HoldsPart m p i k →
       cut 0 (ends m) (changed_at k g m.table.parts) ≡ changed_at p (changed_at i g) (passes m)

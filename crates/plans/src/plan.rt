@@ -6,9 +6,8 @@ mod calls;
 mod iter;
 mod reads;
 
-pub use iter::Passes;
-
 use crate::table::Table;
+pub use iter::Passes;
 
 // A plan: passes in order, each a list of parts.
 // The first `count` ends cut the first `used` places of the table into passes.
