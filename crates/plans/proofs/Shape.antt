@@ -112,3 +112,6 @@ module _ (m : Plan) where
   passes_first n l =
       ap (λ t. cut 0 t m.table.parts) (sym (take-take n m.count m.table.ends l))
       ∙ cut_take n 0 (ends m) m.table.parts
+
+-- What the first n passes of a plan are.
+pub ruleset first_passes = (count_is_length, rising_first, last_end_first, start_within, passes_first)

@@ -5,7 +5,7 @@ ghost use Rattle.plans.specs.Model.{add_reply};
 ghost use Rattle.plans.specs.Parts.{open_part, settled, one};
 ghost use Rattle.plans.specs.Lists.{laid, changed_at};
 
-use crate::part::{Part, Standing};
+use crate::part::Part;
 use refusals::Refusal;
 
 // The most parts of a plan.
@@ -32,10 +32,7 @@ impl Table {
         ensures ends { result.ends ≡ replicate 512 0 }
     {
         Table {
-            parts: [Part {
-                forecast: 0,
-                standing: Standing::Open,
-            }; PLACES],
+            parts: [Part::open(0); PLACES],
             ends: [0; PLACES],
         }
     }

@@ -108,13 +108,12 @@ impl Plan {
     }
 
     // Keeps the first n passes, and forgets the others.
-    #[tactic(auto, using(crate::proofs::Shape::count_is_length, crate::proofs::Shape::rising_first, crate::proofs::Shape::last_end_first, crate::proofs::Shape::start_within, crate::proofs::Shape::passes_first), unfolding(crate::specs::Passes::passes))]
+    #[tactic(auto, using(crate::proofs::Shape::first_passes), unfolding(crate::specs::Passes::passes))]
     fn keep(&mut self, n: usize)
         requires { n ≤ length (passes self.old) }
         ensures { passes self.new ≡ take n (passes self.old) }
     {
-        let used = self.first(n);
+        self.used = self.first(n);
         self.count = n;
-        self.used = used;
     }
 }
