@@ -7,7 +7,7 @@ use refusals::Refusal;
 
 mod rule;
 
-#[derive(Clone, Copy)]
+#[derive(Clone, Copy, PartialEq, Eq, Debug)]
 pub struct Linear {
     k: usize,
     ghost least: { 1 ≤ k },

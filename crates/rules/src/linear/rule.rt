@@ -8,6 +8,7 @@ ghost use Rattle.std.proofs.Common.{rules};
 
 use super::Linear;
 use crate::{Judging, Rule, Verdict};
+use std::cmp::Ordering;
 
 impl Rule for Linear {
     ghost states = { λ rule. (linear rule.k).states };
@@ -39,28 +40,25 @@ impl Rule for Linear {
     }
 
     fn step(&self, state: usize, made: bool) -> usize {
-        if state < self.k {
-            if made { 0 } else { state + 1 }
-        } else if state == self.k {
-            state
-        } else {
-            self.first()
+        match state.cmp(&self.k) {
+            Ordering::Less => if made { 0 } else { state + 1 },
+            Ordering::Equal => state,
+            Ordering::Greater => self.first(),
         }
     }
 
     fn verdict(&self, state: usize) -> Verdict {
-        if state > self.k {
-            Verdict::Aside
-        } else if state == self.k {
-            Verdict::Lost
-        } else {
-            Verdict::Kept
+        match state.cmp(&self.k) {
+            Ordering::Less => Verdict::Kept,
+            Ordering::Equal => Verdict::Lost,
+            Ordering::Greater => Verdict::Aside,
         }
     }
 }
 
 impl Linear {
     // A theorem: runs of missed passes settle what the automaton says of every list, and what the definition says.
+    #[tactic(auto, using(crate::proofs::LinearRuns::judgement_settled, crate::proofs::LinearRuns::definition_settled))]
     pub fn judged_by_runs()
         ensures automaton { (k : ℕ) (outcomes : List Bool) → 1 ≤ k → LinearSettles k outcomes (judgement (linear k) outcomes) }
         ensures definition { (k : ℕ) (outcomes : List Bool) → LinearSettles k outcomes (linear_judges k outcomes) }
