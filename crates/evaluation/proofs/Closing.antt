@@ -1,20 +1,9 @@
--- The totals after one more pass of a plan, from what a list holds.
-use Rattle.std.proofs.Common.{◌≡◌, ℕ, zero, suc, ◌+◌, ◌<◌, ◌≤◌, List, [], length, get_or, take, sym, refl, ap, ◌∙◌, arith}
-use Rattle.std.proofs.lemmas.List.{take_more}
-use Rattle.plans.specs.Model.{Model}
+-- Totals that agree on a rule's states come to the same totals and sums.
+use Rattle.std.proofs.Common.{◌≡◌, ℕ, zero, suc, ◌<◌, List, [], ◌∷◌, length, get_or, refl, sym, ap, ◌∙◌, arith}
 use Rattle.rules.specs.Automaton.{Automaton}
 use Rattle.scales.specs.declared.scale.Scale.{Ghosts as ScaleMeaning}
-use Rattle.scales.specs.declared.weigher.Weigher.{Ghosts as WeigherMeaning}
-use Rattle.sums.specs.Chain.{good, bad, begun, reaching, judged}
-use Rattle.sums.specs.Weights.{up_of, down_of}
-use Rattle.sums.proofs.OneMore.{closing_more}
-use Rattle.evaluation.specs.Evaluation.{second_written, pass_totals, closing_of}
-use Rattle.evaluation.specs.Written.{Written}
-use Rattle.evaluation.proofs.Writing.{written_as, written_then}
-
-pub second_within : (m p : ℕ) → second_written m p ≤ m
-second_within m zero = omega arith
-second_within m (suc p) = omega arith
+use Rattle.sums.specs.Chain.{begun, reaching, judged, after_pass, closing_from, closing}
+use Rattle.evaluation.specs.Written.{Holds}
 
 module _ {V : Type 0} (scale : ScaleMeaning V) (rule : Automaton) where
   -- New totals come from the old totals below n alone.
@@ -27,31 +16,54 @@ module _ {V : Type 0} (scale : ScaleMeaning V) (rule : Automaton) where
       let at : f n ≡ g n = same n (omega arith) in
       cc
 
-  pub judged_same : (f g : ℕ → V) (n k : ℕ) → ((s : ℕ) → s < n → f s ≡ g s) → judged scale rule f n k ≡ judged scale rule g n k
+  closing_same : {A : Type 0} (up down : A → V) (f g : ℕ → V) (ps : List (List A)) (t : ℕ) → t < rule.states
+      → ((s : ℕ) → s < rule.states → f s ≡ g s) → closing_from scale rule up down f ps t ≡ closing_from scale rule up down g ps t
+  closing_same up down f g [] t lt same = same t lt
+  closing_same up down f g (p ∷ ps) t lt same =
+      closing_same up down (after_pass scale rule up down p f) (after_pass scale rule up down p g) ps t lt
+      (λ s h. reaching_same f g _ _ rule.states s same)
+
+  -- The passes that are left make the closing totals of what a list holds.
+  pub record Closes {A : Type 0} (up down : A → V) (plan left : List (List A)) (totals : List V) : Type 0 where
+    pub at : (t : ℕ) → t < rule.states → closing_from scale rule up down (λ s. get_or totals s scale.zero) left t ≡ closing scale rule up down plan t
+
+  pub begun_closes : {A : Type 0} (up down : A → V) (plan left : List (List A)) (totals : List V)
+      → left ≡ plan → length totals ≡ rule.states → Holds scale.zero (begun scale rule) totals → Closes up down plan left totals
+  begun_closes up down plan left totals all len hold =
+      record {
+        at = λ t h. ap (λ ps. closing_from scale rule up down (λ s. get_or totals s scale.zero) ps t) all
+            ∙ closing_same up down (λ s. get_or totals s scale.zero) (begun scale rule) plan t h (λ s k. hold s (omega arith));
+      }
+
+  -- A pass less is left of them where the list holds the totals after that pass.
+  pub carried_closes : {A : Type 0} (up down : A → V) (plan passes left : List (List A)) (pass : List A) (was is : List V)
+      → Closes up down plan passes was → passes ≡ pass ∷ left
+      → length is ≡ rule.states → Holds scale.zero (after_pass scale rule up down pass (λ s. get_or was s scale.zero)) is
+      → Closes up down plan left is
+  carried_closes up down plan passes left pass was is before split len hold =
+      record {
+        at = λ t lt.
+            closing_same up down (λ s. get_or is s scale.zero) (after_pass scale rule up down pass (λ s. get_or was s scale.zero)) left t lt
+            (λ s h. hold s (omega arith))
+            ∙ sym (ap (λ ps. closing_from scale rule up down (λ s. get_or was s scale.zero) ps t) split) ∙ before.at t lt;
+      }
+
+  -- With none left, the list holds them.
+  pub closes_with : {A : Type 0} (up down : A → V) (plan left : List (List A)) (totals : List V)
+      → Closes up down plan left totals → left ≡ [] → length totals ≡ rule.states → Holds scale.zero (closing scale rule up down plan) totals
+  closes_with up down plan left totals closes none len t h =
+      sym (ap (λ ps. closing_from scale rule up down (λ s. get_or totals s scale.zero) ps t) none) ∙ closes.at t (omega arith)
+
+  judged_same : (f g : ℕ → V) (n k : ℕ) → ((s : ℕ) → s < n → f s ≡ g s) → judged scale rule f n k ≡ judged scale rule g n k
   judged_same f g zero k same = refl
   judged_same f g (suc n) k same =
       let before : judged scale rule f n k ≡ judged scale rule g n k = judged_same f g n k (λ s h. same s (omega arith)) in
       let at : f n ≡ g n = same n (omega arith) in
       cc
 
-module _ {V Y : Type 0} (scale : ScaleMeaning V) (rule : Automaton) (weighers : WeigherMeaning Y V) (weigher : Y)
-    (plan : Model) (p : ℕ) (within : p < length plan) (totals : List V)
-    (hold : (s : ℕ) → s < rule.states → get_or totals s scale.zero ≡ closing_of scale rule weighers weigher (take p plan) s) where
-  -- Totals that close the first p passes, carried over the next pass, close one pass more.
-  closing_next : (t : ℕ) → pass_totals scale rule weighers weigher (get_or plan p []) totals t ≡ closing_of scale rule weighers weigher (take (p + 1) plan) t
-  closing_next t =
-      let up = up_of scale weighers weigher in
-      let down = down_of scale weighers weigher in
-      let total = closing_of scale rule weighers weigher (take p plan) in
-      reaching_same scale rule (λ s. get_or totals s scale.zero) total (good scale up down (get_or plan p [])) (bad scale up down (get_or plan p [])) rule.states t hold
-      ∙ sym (ap (λ f. f t) (ap (closing_of scale rule weighers weigher) (take_more plan p [] within)
-      ∙ closing_more scale up down rule (begun scale rule) (take p plan) (get_or plan p [])))
-
-  -- A list that is written with them holds the totals that close one pass more.
-  pub closing_written : (m n : ℕ) (f : ℕ → V) (was is new : List V) → n ≤ m → Written scale.zero n f was is
-      → Written scale.zero m (pass_totals scale rule weighers weigher (get_or plan p []) totals) is new
-      → Written scale.zero m (closing_of scale rule weighers weigher (take (p + 1) plan)) was new
-  closing_written m n f was is new le before more =
-      written_as scale.zero m (pass_totals scale rule weighers weigher (get_or plan p []) totals) (closing_of scale rule weighers weigher (take (p + 1) plan)) was new
-      (λ t h. closing_next t)
-      (written_then scale.zero m n f (pass_totals scale rule weighers weigher (get_or plan p []) totals) was is new le before more)
+  -- The sums of totals that a list holds are those of what it holds.
+  pub sums_same : (f : ℕ → V) (totals sums : List V) → length totals ≡ rule.states → Holds scale.zero f totals
+      → Holds scale.zero (judged scale rule (λ s. get_or totals s scale.zero) (length totals)) sums
+      → Holds scale.zero (judged scale rule f rule.states) sums
+  sums_same f totals sums len hold summed t h =
+      summed t h ∙ judged_same (λ s. get_or totals s scale.zero) f (length totals) t hold ∙ ap (λ n. judged scale rule f n t) len

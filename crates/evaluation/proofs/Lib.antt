@@ -1,4 +1,2 @@
 pub mod Closing
-pub mod Places
-pub mod Weighing
 pub mod Writing

@@ -1,12 +1,11 @@
 // One text for every rule and every scale.
-ghost use Rattle.std.specs.Prelude.{◌≡◌, ◌<◌, ◌≤◌, not, [], length, slice_index_or};
+ghost use Rattle.std.specs.Prelude.{◌≡◌, ◌<◌, not, length};
 ghost use Rattle.plans.specs.Passes.{passes};
 ghost use Rattle.rules.specs.Automaton.{automaton};
-ghost use Rattle.evaluation.specs.Evaluation.{Evaluated, pass_totals, short_list};
-ghost use Rattle.evaluation.specs.Written.{Written};
+ghost use Rattle.evaluation.specs.Evaluation.{Evaluated, closing_of, short_list};
+ghost use Rattle.evaluation.specs.Written.{Holds};
 
-use crate::totals::{advance, begin, sum};
-use crate::weights::pass_weights;
+use crate::totals::{advance, begin, sums};
 use plans::Plan;
 use refusals::Refusal;
 use rules::Rule;
@@ -35,12 +34,31 @@ pub fn evaluate<R: Rule, W: Weigher>(
     if !long_enough(m, totals, next, answer) {
         return Err(Refusal::ShortList);
     }
-    begin(rule, m, totals);
-    for p in 0..plan.passes() {
-        carry(plan, p, rule, m, weigher, totals, next);
-    }
-    sum(rule, m, totals, answer);
+    let totals = &mut totals[..m];
+    close(plan, rule, weigher, totals, &mut next[..m]);
+    answer[..3].copy_from_slice(&sums(rule, totals));
     Ok(m)
+}
+
+// The closing totals by state; if there is a pass, in both lists.
+#[tactic(auto, using(crate::proofs::Closing::begun_closes, crate::proofs::Closing::carried_closes, crate::proofs::Closing::closes_with))]
+fn close<R: Rule, W: Weigher>(
+    plan: &Plan,
+    rule: &R,
+    weigher: &W,
+    totals: &mut [W::Value],
+    next: &mut [W::Value],
+)
+    requires totals { length totals.old ≡ R.states rule.now }
+    requires next { length next.old ≡ R.states rule.now }
+    ensures totals { Holds W.Value.Scale.zero (closing_of W.Value.Scale (automaton R.Rule rule.now) W.Weigher weigher.now (passes plan.now)) totals.new }
+    ensures no_pass { length (passes plan.now) ≡ 0 → next.new ≡ next.old }
+    ensures some_pass { 0 < length (passes plan.now) → next.new ≡ totals.new }
+{
+    begin(rule, totals);
+    for pass in plan {
+        advance(rule, weigher, pass, totals, next);
+    }
 }
 
 // Whether both work lists have m places, and the answer list three.
@@ -48,24 +66,4 @@ fn long_enough<V: Scale>(m: usize, totals: &[V], next: &[V], answer: &[V]) -> bo
     ensures { result ≡ not (short_list m (length totals.now) (length next.now) (length answer.now)) }
 {
     totals.len() >= m && next.len() >= m && answer.len() >= 3
-}
-
-// The totals after the pass p, in both lists.
-fn carry<R: Rule, W: Weigher>(
-    plan: &Plan,
-    p: usize,
-    rule: &R,
-    m: usize,
-    weigher: &W,
-    totals: &mut [W::Value],
-    next: &mut [W::Value],
-)
-    requires { (p < length (passes plan.now)) × ((m ≡ R.states rule.now) × ((m ≤ length totals.old) × (m ≤ length next.old))) }
-    ensures totals { Written W.Value.Scale.zero m (pass_totals W.Value.Scale (automaton R.Rule rule.now) W.Weigher weigher.now (slice_index_or (passes plan.now) p []) totals.old) totals.old totals.new }
-    ensures next { Written W.Value.Scale.zero m (pass_totals W.Value.Scale (automaton R.Rule rule.now) W.Weigher weigher.now (slice_index_or (passes plan.now) p []) totals.old) next.old next.new }
-{
-    if let Some(pass) = plan.pass(p) {
-        let (good, bad) = pass_weights(weigher, pass);
-        advance(rule, m, good, bad, totals, next);
-    }
 }

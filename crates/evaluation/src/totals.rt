@@ -1,86 +1,72 @@
 // Totals by state: how they begin, how a pass carries them on, and how they are summed by verdict.
-ghost use Rattle.std.specs.Prelude.{◌≡◌, ℕ, ◌<◌, ◌≤◌, length, get_or, ◌==◌, slice_index_or};
+ghost use Rattle.std.specs.Prelude.{◌≡◌, ℕ, ◌<◌, length, slice_index_or, ◌==◌};
 ghost use Rattle.rules.specs.Automaton.{automaton};
-ghost use Rattle.sums.specs.Chain.{place_of, add_if, begun, spread_to, reaching, judged};
-ghost use Rattle.evaluation.specs.Written.{Written};
+ghost use Rattle.sums.specs.Chain.{begun, judged, add_if};
+ghost use Rattle.evaluation.specs.Evaluation.{pass_totals};
+ghost use Rattle.evaluation.specs.Written.{Holds};
 
-use crate::lists::{add_at, clear, copy};
-use rules::{Rule, Verdict};
-use scales::Scale;
+use crate::weights::PassWeights;
+use plans::Part;
+use rules::Rule;
+use scales::{Scale, Weigher};
 
 // One at the first state, zero at the others.
-pub(super) fn begin<R: Rule, V: Scale>(rule: &R, m: usize, totals: &mut [V])
-    requires { (0 < m) × ((m ≡ R.states rule.now) × (m ≤ length totals.old)) }
-    ensures { Written V.zero m (begun V.Scale (automaton R.Rule rule.now)) totals.old totals.new }
+pub(super) fn begin<R: Rule, V: Scale>(rule: &R, totals: &mut [V])
+    ensures { Holds V.zero (begun V.Scale (automaton R.Rule rule.now)) totals.new }
 {
-    clear(totals, m);
-    totals[rule.first()] = V::one();
-}
-
-// What the total of one state adds to the states that it steps to: made, with good, and missed, with bad.
-fn spread<R: Rule, V: Scale>(rule: &R, s: usize, good: V, bad: V, totals: &[V], next: &mut [V])
-    requires { (s < R.states rule.now) × ((R.states rule.now ≤ length totals.now) × (R.states rule.now ≤ length next.old)) }
-    ensures { (t : ℕ) → slice_index_or next.new t V.zero ≡ spread_to V.Scale (automaton R.Rule rule.now) (λ s. get_or totals.now s V.zero) good bad s t (slice_index_or next.old t V.zero) }
-{
-    let total = totals[s];
-    add_at(next, rule.step(s, true), total.times(good));
-    add_at(next, rule.step(s, false), total.times(bad));
-}
-
-// The totals after one more pass, gathered in another list.
-fn gather<R: Rule, V: Scale>(rule: &R, m: usize, good: V, bad: V, totals: &[V], next: &mut [V])
-    requires { (m ≡ R.states rule.now) × ((m ≤ length totals.now) × (m ≤ length next.old)) }
-    ensures { Written V.zero m (reaching V.Scale (automaton R.Rule rule.now) (λ s. get_or totals.now s V.zero) good bad m) next.old next.new }
-{
-    clear(next, m);
-    for s in 0..m {
-        spread(rule, s, good, bad, totals, next);
+    let first = rule.first();
+    for (state, total) in totals.iter_mut().enumerate() {
+        *total = if state == first { V::one() } else { V::zero() };
     }
 }
 
-// The totals after one more pass, in both lists.
-pub(super) fn advance<R: Rule, V: Scale>(
+// Adds a value at one place.
+fn add_at<V: Scale>(list: &mut [V], place: usize, value: V)
+    requires { place < length list.old }
+    ensures { (k : ℕ) → slice_index_or list.new k V.zero ≡ add_if V.Scale (place == k) (slice_index_or list.old k V.zero) value }
+{
+    list[place] = list[place].plus(value);
+}
+
+// Zero at every place.
+fn clear<V: Scale>(list: &mut [V])
+    ensures { Holds V.zero (λ _. V.zero) list.new }
+{
+    for sum in list.iter_mut() {
+        *sum = V::zero();
+    }
+}
+
+// Carries the totals over one more pass, and leaves them in both lists: each state adds its total to the state that it steps to when
+// the pass is made, and to the one when it is missed.
+pub(super) fn advance<R: Rule, W: Weigher>(
     rule: &R,
-    m: usize,
-    good: V,
-    bad: V,
-    totals: &mut [V],
-    next: &mut [V],
+    weigher: &W,
+    pass: &[Part],
+    totals: &mut [W::Value],
+    next: &mut [W::Value],
 )
-    requires { (m ≡ R.states rule.now) × ((m ≤ length totals.old) × (m ≤ length next.old)) }
-    ensures totals { Written V.zero m (reaching V.Scale (automaton R.Rule rule.now) (λ s. get_or totals.old s V.zero) good bad m) totals.old totals.new }
-    ensures next { Written V.zero m (reaching V.Scale (automaton R.Rule rule.now) (λ s. get_or totals.old s V.zero) good bad m) next.old next.new }
+    requires totals { length totals.old ≡ R.states rule.now }
+    requires next { length next.old ≡ R.states rule.now }
+    ensures totals { Holds W.Value.Scale.zero (pass_totals W.Value.Scale (automaton R.Rule rule.now) W.Weigher weigher.now pass.now totals.old) totals.new }
+    ensures next { next.new ≡ totals.new }
 {
-    gather(rule, m, good, bad, totals, next);
-    copy(next, totals, m);
-}
-
-// The place of a verdict among the answers.
-fn place(verdict: Verdict) -> usize
-    ensures { (result ≡ place_of verdict) × (result < 3) }
-{
-    match verdict {
-        Verdict::Kept => 0,
-        Verdict::Lost => 1,
-        Verdict::Aside => 2,
+    let weights = PassWeights::of(weigher, pass);
+    clear(next);
+    for (state, total) in totals.iter().enumerate() {
+        add_at(next, rule.step(state, true), total.times(weights.good));
+        add_at(next, rule.step(state, false), total.times(weights.bad));
     }
-}
-
-// What the total of one state adds to the answer for its verdict.
-fn count_in<R: Rule, V: Scale>(rule: &R, s: usize, totals: &[V], answer: &mut [V])
-    requires { (s < length totals.now) × (3 ≤ length answer.old) }
-    ensures { (k : ℕ) → slice_index_or answer.new k V.zero ≡ add_if V.Scale (place_of (R.verdict rule.now s) == k) (slice_index_or answer.old k V.zero) (slice_index_or totals.now s V.zero) }
-{
-    add_at(answer, place(rule.verdict(s)), totals[s]);
+    totals.copy_from_slice(next);
 }
 
 // The sums of the totals over the kept, the lost and the aside states.
-pub(super) fn sum<R: Rule, V: Scale>(rule: &R, m: usize, totals: &[V], answer: &mut [V])
-    requires { (m ≤ length totals.now) × (3 ≤ length answer.old) }
-    ensures { Written V.zero 3 (judged V.Scale (automaton R.Rule rule.now) (λ s. get_or totals.now s V.zero) m) answer.old answer.new }
+pub(super) fn sums<R: Rule, V: Scale>(rule: &R, totals: &[V]) -> [V; 3]
+    ensures { Holds V.zero (judged V.Scale (automaton R.Rule rule.now) (λ s. slice_index_or totals.now s V.zero) (length totals.now)) result }
 {
-    clear(answer, 3);
-    for s in 0..m {
-        count_in(rule, s, totals, answer);
+    let mut sums = [V::zero(); 3];
+    for (state, total) in totals.iter().enumerate() {
+        add_at(&mut sums, rule.verdict(state) as usize, *total);
     }
+    sums
 }
