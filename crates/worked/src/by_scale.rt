@@ -1,55 +1,25 @@
 // What the library answers on each scale, against a listing of all patterns, known numbers and its limits.
-use crate::listing::{Tally, tallied};
+use crate::listing::tallied;
+use crate::trying::{answers, mixed, singles};
 use evaluation::evaluate;
 use odds::{Ends, Forecasting, UNIT};
 use plans::Plan;
 use refusals::Refusal;
 use rules::Linear;
-use scales::{ByMissed, Count, Counting, Fewest, Minimizing, Scale, Tallying, Weigher};
+use scales::{Counting, Minimizing, Scale, Tallying, Weigher};
 use std::alloc::Global;
 use std::process::Abort;
 use std::test::Fail;
 
-// The three answers by linear k.
-fn answers<W: Weigher>(
-    rt: &impl Abort,
-    heap: Global,
-    plan: &Plan,
-    k: usize,
-    weigher: &W,
-) -> Result<[W::Value; 3], Fail>
-where
-    W::Value: Clone,
-{
-    let rule = Linear::new(k)?;
-    let mut totals = vec![in heap; W::Value::zero(); 64]?;
-    let mut next = vec![in heap; W::Value::zero(); 64]?;
-    let mut answer = [W::Value::zero(); 3];
-    assert_eq!(rt;
-        evaluate(plan, &rule, weigher, &mut totals, &mut next, &mut answer),
-        Ok(k + 1)
-    );
-    Ok(answer)
-}
-
-// A plan of three passes, of one, three and two parts, two of them settled.
-fn mixed() -> Result<Plan, Fail> {
-    let mut plan = Plan::make();
-    plan.add(&[700_000_001])?;
-    plan.add(&[1, 900_000_000, 3])?;
-    plan.add(&[0, 333_333_333])?;
-    plan.settle(1, 2, true)?;
-    plan.settle(2, 0, false)?;
-    Ok(plan)
+// A plan with two parts settled and four open.
+fn plan() -> Result<Plan, Fail> {
+    mixed(&[700_000_001], &[1, 900_000_000, 3], &[0, 333_333_333])
 }
 
 // Lists of n outcomes without two misses in a row and with j misses number the binomial coefficient of n - j + 1 and j.
 #[test]
 fn binomials(rt: HostRuntime) -> Result<(), Fail> {
-    let mut plan = Plan::make();
-    for _ in 0..63 {
-        plan.add(&[0])?;
-    }
+    let plan = singles(63)?;
     let [kept, lost, _] = answers(&rt, rt.alloc(), &plan, 2, &Tallying)?;
     let kept = kept.counts;
     let lost = lost.counts;
@@ -62,25 +32,28 @@ fn binomials(rt: HostRuntime) -> Result<(), Fail> {
     Ok(())
 }
 
-// What evaluations on each scale give of one verdict is what the patterns of that verdict come to, listed one by one.
-fn as_listed(rt: &impl Abort, listed: &Tally, count: Count, by_missed: ByMissed, fewest: Fewest) {
-    assert_eq!(rt; count.number, listed.count());
-    assert_eq!(rt; by_missed.counts, listed.by_missed);
-    assert_eq!(rt; fewest.least(), listed.fewest());
-}
-
+// What evaluations on each scale give of a verdict is what the patterns of that verdict come to, listed one by one.
 #[test]
 fn all_values(rt: HostRuntime) -> Result<(), Fail> {
-    let heap = rt.alloc();
-    let plan = mixed()?;
+    let alloc = rt.alloc();
+    let plan = plan()?;
     for k in 1..5 {
-        let all = tallied(heap, &plan, &Linear::new(k)?, 64)?;
-        let counts = answers(&rt, heap, &plan, k, &Counting)?;
-        let by_missed = answers(&rt, heap, &plan, k, &Tallying)?;
-        let fewest = answers(&rt, heap, &plan, k, &Minimizing)?;
-        for v in 0..3 {
-            as_listed(&rt, &all[v], counts[v], by_missed[v], fewest[v]);
-        }
+        let all = tallied(alloc, &plan, &Linear::new(k)?, 64)?;
+        let counts = answers(&rt, alloc, &plan, k, &Counting)?;
+        let by_missed = answers(&rt, alloc, &plan, k, &Tallying)?;
+        let fewest = answers(&rt, alloc, &plan, k, &Minimizing)?;
+        assert_eq!(rt;
+            counts.map(|value| value.number),
+            all.map(|tally| tally.count())
+        );
+        assert_eq!(rt;
+            by_missed.map(|value| value.counts),
+            all.map(|tally| tally.by_missed)
+        );
+        assert_eq!(rt;
+            fewest.map(|value| value.least()),
+            all.map(|tally| tally.fewest())
+        );
     }
     Ok(())
 }
@@ -88,17 +61,17 @@ fn all_values(rt: HostRuntime) -> Result<(), Fail> {
 // The four open parts of the plan have the exact chance S / U^4, which is between the two ends when S / U^3 is.
 #[test]
 fn all_chances(rt: HostRuntime) -> Result<(), Fail> {
-    let heap = rt.alloc();
-    let plan = mixed()?;
+    let alloc = rt.alloc();
+    let plan = plan()?;
     for k in 1..5usize {
-        let all = tallied(heap, &plan, &Linear::new(k)?, 64)?;
-        let odds = answers(&rt, heap, &plan, k, &Forecasting)?;
-        for v in 0..3 {
-            let below = all[v].exact >> 90;
-            let above = all[v].exact.saturating_add((1 << 90) - 1) >> 90;
-            assert!(rt; u128::from(odds[v].low) <= below);
-            assert!(rt; above <= u128::from(odds[v].high));
-            assert!(rt; odds[v].high <= odds[v].low.saturating_add(8 * (k as u64 + 1) * 6));
+        let all = tallied(alloc, &plan, &Linear::new(k)?, 64)?;
+        let odds = answers(&rt, alloc, &plan, k, &Forecasting)?;
+        for (tally, ends) in all.iter().zip(&odds) {
+            let below = tally.exact >> 90;
+            let above = tally.exact.saturating_add((1 << 90) - 1) >> 90;
+            assert!(rt; u128::from(ends.low) <= below);
+            assert!(rt; above <= u128::from(ends.high));
+            assert!(rt; ends.high <= ends.low.saturating_add(8 * (k as u64 + 1) * 6));
         }
     }
     Ok(())
@@ -106,7 +79,7 @@ fn all_chances(rt: HostRuntime) -> Result<(), Fail> {
 
 // What an evaluation by linear 2 replies, in work lists of three and of so many places.
 fn replied<W: Weigher>(
-    heap: Global,
+    alloc: Global,
     plan: &Plan,
     weigher: &W,
     second: usize,
@@ -115,35 +88,32 @@ where
     W::Value: Clone,
 {
     let rule = Linear::new(2)?;
-    let mut totals = vec![in heap; W::Value::zero(); 3]?;
-    let mut next = vec![in heap; W::Value::zero(); second]?;
-    let mut answer = vec![in heap; W::Value::zero(); 3]?;
+    let mut totals = vec![in alloc; W::Value::zero(); 3]?;
+    let mut next = vec![in alloc; W::Value::zero(); second]?;
+    let mut answer = vec![in alloc; W::Value::zero(); 3]?;
     Ok(evaluate(plan, &rule, weigher, &mut totals, &mut next, &mut answer))
 }
 
 #[test]
 fn most_parts(rt: HostRuntime) -> Result<(), Fail> {
-    let heap = rt.alloc();
-    let mut plan = Plan::make();
-    for _ in 0..63 {
-        plan.add(&[0])?;
-    }
+    let alloc = rt.alloc();
+    let mut plan = singles(63)?;
     assert_eq!(rt;
-        replied(heap, &plan, &Counting, 2)?,
+        replied(alloc, &plan, &Counting, 2)?,
         Err(Refusal::ShortList)
     );
-    assert_eq!(rt; replied(heap, &plan, &Tallying, 3)?, Ok(3));
+    assert_eq!(rt; replied(alloc, &plan, &Tallying, 3)?, Ok(3));
     plan.add(&[0])?;
     assert_eq!(rt;
-        replied(heap, &plan, &Counting, 3)?,
+        replied(alloc, &plan, &Counting, 3)?,
         Err(Refusal::TooManyParts)
     );
     assert_eq!(rt;
-        replied(heap, &plan, &Tallying, 2)?,
+        replied(alloc, &plan, &Tallying, 2)?,
         Err(Refusal::TooManyParts)
     );
-    assert_eq!(rt; replied(heap, &plan, &Minimizing, 3)?, Ok(3));
-    assert_eq!(rt; replied(heap, &plan, &Forecasting, 3)?, Ok(3));
+    assert_eq!(rt; replied(alloc, &plan, &Minimizing, 3)?, Ok(3));
+    assert_eq!(rt; replied(alloc, &plan, &Forecasting, 3)?, Ok(3));
     Ok(())
 }
 

@@ -10,6 +10,8 @@ mod by_scale;
 mod listing;
 #[cfg(test)]
 mod tests;
+#[cfg(test)]
+mod trying;
 
 // A theorem: the definitions value each plan of the table as it says.
 pub fn worked_plans()

@@ -1,7 +1,7 @@
 // All patterns of a small plan, one after the other, each judged and weighed by itself: another way to the same values.
 use odds::UNIT;
 use plans::{Part, Plan, Standing};
-use rules::{Judging, Verdict, judge};
+use rules::{Judging, judge};
 use std::alloc::{AllocError, Global};
 
 // What the patterns of one verdict come to.
@@ -31,8 +31,8 @@ impl Marks {
                 self.weigh(u64::from(part.forecast), up);
                 Some(up)
             }
-            Standing::Up => if up { Some(true) } else { None },
-            Standing::Down => if up { None } else { Some(false) },
+            Standing::Up => up.then_some(true),
+            Standing::Down => (!up).then_some(false),
         }
     }
 
@@ -60,13 +60,14 @@ fn pass_made(parts: &[Part], marks: &mut Marks) -> Option<bool> {
 }
 
 // Which passes the pattern makes, if it is allowed.
-fn outcomes(heap: Global, plan: &Plan, marks: &mut Marks) -> Result<Option<Vec<bool>>, AllocError> {
-    let mut list = Vec::new(heap);
-    for p in 0..plan.passes() {
-        let Some(parts) = plan.pass(p) else {
-            return Ok(None);
-        };
-        let Some(made) = pass_made(parts, marks) else {
+fn outcomes(
+    alloc: Global,
+    plan: &Plan,
+    marks: &mut Marks,
+) -> Result<Option<Vec<bool>>, AllocError> {
+    let mut list = Vec::new(alloc);
+    for pass in plan {
+        let Some(made) = pass_made(pass, marks) else {
             return Ok(None);
         };
         list.push(made)?;
@@ -76,38 +77,31 @@ fn outcomes(heap: Global, plan: &Plan, marks: &mut Marks) -> Result<Option<Vec<b
 
 impl Tally {
     fn add(&mut self, marks: &Marks) {
-        let down = marks.down;
-        if down < 64 {
-            self.by_missed[down] = self.by_missed[down].saturating_add(1);
+        if let Some(count) = self.by_missed.get_mut(marks.down) {
+            *count = count.saturating_add(1);
         }
         self.exact = self.exact.saturating_add(marks.product);
     }
 
     // How many patterns there are.
     pub(super) fn count(&self) -> u64 {
-        let mut count = 0u64;
-        for n in self.by_missed {
-            count = count.saturating_add(n);
-        }
-        count
+        self.by_missed
+            .iter()
+            .fold(0, |count, more| count.saturating_add(*more))
     }
 
     // The fewest parts that a pattern has down, if there is one.
     pub(super) fn fewest(&self) -> Option<u32> {
-        let mut down = 0u32;
-        for n in self.by_missed {
-            if n > 0 {
-                return Some(down);
-            }
-            down = down.saturating_add(1);
-        }
-        None
+        self.by_missed
+            .iter()
+            .position(|count| *count > 0)
+            .map(|down| down as u32)
     }
 }
 
 // The first so many patterns of a plan, by their verdicts: kept, lost and aside.
 pub(super) fn tallied<R: Judging>(
-    heap: Global,
+    alloc: Global,
     plan: &Plan,
     rule: &R,
     patterns: u32,
@@ -122,13 +116,8 @@ pub(super) fn tallied<R: Judging>(
             down: 0,
             product: 1,
         };
-        if let Some(list) = outcomes(heap, plan, &mut marks)? {
-            let place = match judge(rule, &list) {
-                Verdict::Kept => 0,
-                Verdict::Lost => 1,
-                Verdict::Aside => 2,
-            };
-            verdicts[place].add(&marks);
+        if let Some(list) = outcomes(alloc, plan, &mut marks)? {
+            verdicts[judge(rule, &list) as usize].add(&marks);
         }
     }
     Ok(verdicts)
@@ -136,11 +125,11 @@ pub(super) fn tallied<R: Judging>(
 
 // How many of the first so many patterns are kept, lost and aside.
 pub(super) fn listed<R: Judging>(
-    heap: Global,
+    alloc: Global,
     plan: &Plan,
     rule: &R,
     patterns: u32,
 ) -> Result<[u64; 3], AllocError> {
-    let [kept, lost, aside] = tallied(heap, plan, rule, patterns)?;
-    Ok([kept.count(), lost.count(), aside.count()])
+    let verdicts = tallied(alloc, plan, rule, patterns)?;
+    Ok(verdicts.map(|tally| tally.count()))
 }
