@@ -6,4 +6,4 @@ mod printed;
 mod values;
 
 pub use lines::{put_answer, put_end, put_refusal};
-pub use printed::Printed;
+pub use printed::{InPlan, Printed};
