@@ -23,7 +23,7 @@ fewest_text fewest parts = least_text (least fewest)
 
 -- Odds are their two ends, `low-high`.
 abbrev pub ends_text : Ends → ℕ → List ℕ
-ends_text ends parts = decimal ends.low ++ (codes "-" ++ decimal ends.high)
+ends_text ends parts = decimal ends.low ++ codes "-" ++ decimal ends.high
 
 -- A number behind another, with its comma.
 abbrev pub further : ℕ → List ℕ
