@@ -43,7 +43,7 @@ module _ {V Y : Type 0} (scale : ScaleMeaning V) (rule : Automaton) (weighers : 
   module _ (plan : Model) (was_totals was_next was_answer totals next answers : List V) where
     -- It is accepted, replies with m, and writes the closing totals and the answers.
     pub record Accepted (reply : ℕ) : Type 0 where
-      pub allowed : refusal rule.states (size plan) weighers.limit (length was_totals) (length was_next) (length was_answer) ≡ None
+      pub allowed : refusal rule.states (size plan) weighers.LIMIT (length was_totals) (length was_next) (length was_answer) ≡ None
       pub replied : reply ≡ rule.states
       pub first_list : Written scale.zero rule.states (closing_of plan) was_totals totals
       pub second_list : Written scale.zero (second_written rule.states (length plan)) (closing_of plan) was_next next
@@ -51,7 +51,7 @@ module _ {V Y : Type 0} (scale : ScaleMeaning V) (rule : Automaton) (weighers : 
 
     -- It is declined for the first reason that there is, and writes nothing.
     pub record Declined (reason : Refusal) : Type 0 where
-      pub because : refusal rule.states (size plan) weighers.limit (length was_totals) (length was_next) (length was_answer) ≡ Some reason
+      pub because : refusal rule.states (size plan) weighers.LIMIT (length was_totals) (length was_next) (length was_answer) ≡ Some reason
       pub same_totals : totals ≡ was_totals
       pub same_next : next ≡ was_next
       pub same_answers : answers ≡ was_answer

@@ -28,7 +28,7 @@ pub fn evaluate<R: Rule, W: Weigher>(
     if m == 0 {
         return Err(Refusal::TooWide);
     }
-    if plan.parts() > W::most() {
+    if plan.parts() > W::LIMIT {
         return Err(Refusal::TooManyParts);
     }
     if !long_enough(m, totals, next, answer) {

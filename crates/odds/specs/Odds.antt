@@ -57,4 +57,4 @@ odds = record {
 
 -- A part weighs its forecast up, capped at U, and what that leaves of U down; at most 512 parts.
 abbrev pub forecasting : WeigherMeaning Forecasting Ends
-forecasting = record { limit = 512; up = λ _ f. even (min f unit); down = λ _ f. even (unit - min f unit) }
+forecasting = record { LIMIT = 512; up = λ _ f. even (min f unit); down = λ _ f. even (unit - min f unit) }

@@ -21,15 +21,11 @@ impl Weigher for Forecasting {
 
     const LIMIT: usize = 512;
 
-    ghost limit = { forecasting.limit };
+    ghost LIMIT = { forecasting.LIMIT };
 
     ghost up = { forecasting.up };
 
     ghost down = { forecasting.down };
-
-    fn most() -> usize {
-        Self::LIMIT
-    }
 
     fn up(&self, forecast: u32) -> Ends {
         let up = chance(forecast);

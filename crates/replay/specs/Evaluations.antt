@@ -22,4 +22,4 @@ module _ {V Y : Type 0} (scale : ScaleMeaning V) (rule : Automaton) (weighers : 
 
   -- The line: the first reason to decline, if there is one, otherwise the answers.
   abbrev pub evaluation_line : List ℕ
-  evaluation_line = line_by (refusal rule.states (size plan) weighers.limit places places 3)
+  evaluation_line = line_by (refusal rule.states (size plan) weighers.LIMIT places places 3)

@@ -25,4 +25,4 @@ counts = record {
 
 -- Every part weighs one, up and down; at most 63 parts.
 abbrev pub counting : WeigherMeaning Counting Count
-counting = record { limit = 63; up = λ _ _. counts.one; down = λ _ _. counts.one }
+counting = record { LIMIT = 63; up = λ _ _. counts.one; down = λ _ _. counts.one }

@@ -29,7 +29,7 @@ fewests = record {
 
 -- A part costs nothing up, and one down; at most 512 parts.
 abbrev pub minimizing : WeigherMeaning Minimizing Fewest
-minimizing = record { limit = 512; up = λ _ _. fewest 0; down = λ _ _. fewest 1 }
+minimizing = record { LIMIT = 512; up = λ _ _. fewest 0; down = λ _ _. fewest 1 }
 
 -- The number, unless it is read as none.
 abbrev pub least : Fewest → Option ℕ

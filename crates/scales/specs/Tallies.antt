@@ -38,7 +38,7 @@ tallies = record {
 
 -- A part is one pattern, with none down if it is up, with one down if it is down; at most 63 parts.
 abbrev pub tallying : WeigherMeaning Tallying ByMissed
-tallying = record { limit = 63; up = λ _ _. tallies.one; down = λ _ _. tally (only 1) }
+tallying = record { LIMIT = 63; up = λ _ _. tallies.one; down = λ _ _. tally (only 1) }
 
 -- What times is for: a pattern with i parts down, and then one with j, is one with i + j.
 abbrev pub PartsDownAdd : Type 0

@@ -10,16 +10,12 @@ pub trait Weigher {
     // The most parts that a plan may have.
     const LIMIT: usize;
 
-    // What LIMIT is, for contracts.
-    ghost limit: { ℕ };
+    // The same number, for contracts.
+    ghost LIMIT: { ℕ };
 
     ghost up: { Self → ℕ → Self.Value };
 
     ghost down: { Self → ℕ → Self.Value };
-
-    // LIMIT, with the promise that it is what the contracts say.
-    fn most() -> usize
-        ensures { result ≡ limit };
 
     fn up(&self, forecast: u32) -> Self::Value
         ensures { result ≡ up self.now forecast };

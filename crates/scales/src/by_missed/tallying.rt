@@ -13,15 +13,11 @@ impl Weigher for Tallying {
 
     const LIMIT: usize = 63;
 
-    ghost limit = { tallying.limit };
+    ghost LIMIT = { tallying.LIMIT };
 
     ghost up = { tallying.up };
 
     ghost down = { tallying.down };
-
-    fn most() -> usize {
-        Self::LIMIT
-    }
 
     fn up(&self, _forecast: u32) -> ByMissed {
         ByMissed::one()

@@ -13,15 +13,11 @@ impl Weigher for Counting {
 
     const LIMIT: usize = 63;
 
-    ghost limit = { counting.limit };
+    ghost LIMIT = { counting.LIMIT };
 
     ghost up = { counting.up };
 
     ghost down = { counting.down };
-
-    fn most() -> usize {
-        Self::LIMIT
-    }
 
     fn up(&self, _forecast: u32) -> Count {
         Count::one()

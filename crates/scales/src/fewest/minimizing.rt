@@ -12,15 +12,11 @@ impl Weigher for Minimizing {
 
     const LIMIT: usize = 512;
 
-    ghost limit = { minimizing.limit };
+    ghost LIMIT = { minimizing.LIMIT };
 
     ghost up = { minimizing.up };
 
     ghost down = { minimizing.down };
-
-    fn most() -> usize {
-        Self::LIMIT
-    }
 
     fn up(&self, _forecast: u32) -> Fewest {
         Fewest::of(0)
