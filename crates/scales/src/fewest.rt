@@ -12,6 +12,7 @@ pub use minimizing::Minimizing;
 // The bound is part of the type, so that the laws hold for all values and not only for those that a program can hold.
 #[derive(Clone, Copy, PartialEq, Eq, Debug)]
 pub struct Fewest {
+    // No `Option`: a value on this scale is one whole number of 32 bits, and plus and times work on it as it is.
     pub parts: u32,
     ghost fits: { parts < 2 ^ 32 },
 }

@@ -1,15 +1,15 @@
 // Sums and products of counts.
-ghost use Rattle.std.specs.Prelude.{◌≡◌, ℕ, ◌%◌, ◌^◌};
-ghost use Rattle.scales.specs.Counts.{counts, count};
+ghost use Rattle.std.specs.Prelude.{◌≡◌};
+ghost use Rattle.scales.specs.Counts.{counts};
 
 use super::Count;
 use crate::Scale;
 
-impl Count {
-    // A number below 2^64 is the count of every whole number that leaves it.
-    fn of(number: u64) -> Count
-        ensures { (n : ℕ) → number ≡ n % 2 ^ 64 → result ≡ count n }
-    {
+// Any number below 2^64 is a count.
+impl From<u64> for Count {
+    ghost from_gives = { λ number made. made.number ≡ number };
+
+    fn from(number: u64) -> Count {
         Count { number }
     }
 }
@@ -24,18 +24,18 @@ impl Scale for Count {
     ghost times = { counts.times };
 
     fn zero() -> Count {
-        Count::of(0)
+        Count::from(0)
     }
 
     fn one() -> Count {
-        Count::of(1)
+        Count::from(1)
     }
 
     fn plus(self, other: Count) -> Count {
-        Count::of(self.number.wrapping_add(other.number))
+        Count::from(self.number.wrapping_add(other.number))
     }
 
     fn times(self, other: Count) -> Count {
-        Count::of(self.number.wrapping_mul(other.number))
+        Count::from(self.number.wrapping_mul(other.number))
     }
 }

@@ -19,10 +19,10 @@ impl Weigher for Minimizing {
     ghost down = { minimizing.down };
 
     fn up(&self, _forecast: u32) -> Fewest {
-        Fewest::of(0)
+        Fewest::from(0)
     }
 
     fn down(&self, _forecast: u32) -> Fewest {
-        Fewest::of(1)
+        Fewest::from(1)
     }
 }

@@ -1,6 +1,6 @@
 // The smaller of two numbers of parts, and their capped sum.
-ghost use Rattle.std.specs.Prelude.{◌≡◌, ℕ, min};
-ghost use Rattle.scales.specs.Fewests.{fewests, fewest, none, least};
+ghost use Rattle.std.specs.Prelude.{◌≡◌};
+ghost use Rattle.scales.specs.Fewests.{fewests, least};
 
 use super::Fewest;
 use crate::Scale;
@@ -8,23 +8,21 @@ use crate::Scale;
 // The number that is read as none.
 const NONE: u32 = u32::MAX;
 
-impl Fewest {
-    // A number is the fewest of every whole number that the cap takes to it.
-    pub(super) fn of(parts: u32) -> Fewest
-        ensures { (n : ℕ) → parts ≡ min n none → result ≡ fewest n }
-    {
+// Any number below 2^32 is a value.
+impl From<u32> for Fewest {
+    ghost from_gives = { λ parts made. made.parts ≡ parts };
+
+    fn from(parts: u32) -> Fewest {
         Fewest { parts }
     }
+}
 
+impl Fewest {
     // The number, or `None` where it is read as none.
     pub fn least(&self) -> Option<u32>
         ensures { result ≡ least self.now }
     {
-        if self.parts == NONE {
-            None
-        } else {
-            Some(self.parts)
-        }
+        (self.parts != NONE).then_some(self.parts)
     }
 }
 
@@ -38,18 +36,18 @@ impl Scale for Fewest {
     ghost times = { fewests.times };
 
     fn zero() -> Fewest {
-        Fewest::of(NONE)
+        Fewest::from(NONE)
     }
 
     fn one() -> Fewest {
-        Fewest::of(0)
+        Fewest::from(0)
     }
 
     fn plus(self, other: Fewest) -> Fewest {
-        Fewest::of(self.parts.min(other.parts))
+        Fewest::from(self.parts.min(other.parts))
     }
 
     fn times(self, other: Fewest) -> Fewest {
-        Fewest::of(self.parts.saturating_add(other.parts))
+        Fewest::from(self.parts.saturating_add(other.parts))
     }
 }
