@@ -2,6 +2,7 @@
 use super::Fewest;
 use crate::{LawfulScale, Scale};
 
+#[tactic(auto, using(crate::proofs::SameFewest::same_fewest))]
 impl LawfulScale for Fewest {
     fn plus_laws() {}
 

@@ -1,9 +1,0 @@
-use Rattle.std.proofs.Common.{arith}
-use Rattle.scales.proofs.SameFewest.{same_fewest}
-use Rattle.scales.proofs.fewest.laws.FewestLawfulScale.absorbs.Goals as goal
-
-pub returns : goal.returns
-returns c = record {
-  left = λ x. same_fewest _ _ (omega arith);
-  right = λ x. same_fewest _ _ (omega arith);
-}
