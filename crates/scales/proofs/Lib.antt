@@ -1,3 +1,4 @@
+pub mod Closures
 pub mod Convolving
 pub mod Modulo
 pub mod SameCount

@@ -1,5 +1,5 @@
 -- Values with the same counts at the places 0 to 63 are one value, and what a product takes from a tally is the function.
-use Rattle.std.proofs.Common.{◌≡◌, ℕ, ◌+◌, ◌%◌, ◌^◌, ◌<◌, length, get_or, sym, refl, ap, ◌∙◌, mod-eq_of_lt, arith}
+use Rattle.std.proofs.Common.{◌≡◌, ℕ, ◌+◌, ◌%◌, ◌^◌, ◌<◌, length, slice_index, sym, refl, ap, ◌∙◌, mod-eq_of_lt, arith}
 use mathlib.Core.HLevel.{is_prop→PathP, Π_prop}
 use native.Mathlib.Bridge.{le_prop}
 use native.Mathlib.Nat.{ℕ_set, mod-mod}
@@ -14,7 +14,7 @@ same_list : (a b : ByMissed) → a.counts ≡ b.counts → a ≡ b
 same_list a b e = λ i. record {
   counts = e i;
   whole = is_prop→PathP (λ j. length (e j) ≡ 64) (λ j. ℕ_set _ _) a.whole b.whole i;
-  fits = is_prop→PathP (λ j. (k : ℕ) → get_or (e j) k 0 < 2 ^ 64) (λ j. Π_prop (λ k. le_prop)) a.fits b.fits i;
+  fits = is_prop→PathP (λ j. (k : ℕ) → slice_index (e j) k < 2 ^ 64) (λ j. Π_prop (λ k. le_prop)) a.fits b.fits i;
 }
 
 -- A value is the tally of what it has at each place.

@@ -1,5 +1,7 @@
 -- Laws of finite sums.
-use Rattle.std.proofs.Common.{◌≡◌, ℕ, zero, suc, ◌+◌, ◌*◌, ◌%◌, ◌<◌, refl, ap₂, arith}
+use Rattle.std.proofs.Common.{◌≡◌, ℕ, zero, suc, ◌+◌, ◌*◌, ◌%◌, ◌<◌, map, refl, ap, ap₂, ◌∙◌, add-one, arith}
+use Rattle.std.specs.List.{sum, range_with_len}
+use Rattle.std.proofs.lemmas.List.FromFn.{sum_by-map-range_with_len_more}
 use Rattle.scales.specs.Tallies.{sum_below}
 use Rattle.scales.proofs.Modulo.{add_congruent}
 
@@ -38,3 +40,11 @@ pub sum_first : (n : ℕ) (f : ℕ → ℕ) → sum_below (suc n) f ≡ f 0 + su
 unfolding sum_below
 sum_first zero f = omega arith
 sum_first (suc n) f = omega (arith, sum_first n f)
+
+-- The terms as a list.
+pub sum_listed : (n : ℕ) (f : ℕ → ℕ) → sum (map f (range_with_len 0 n)) ≡ sum_below n f
+unfolding sum_below
+sum_listed zero f = refl
+sum_listed (suc n) f =
+    let more : sum (map f (range_with_len 0 (n + 1))) ≡ sum (map f (range_with_len 0 n)) + f n = sum_by-map-range_with_len_more (λ x. x) f 0 n n (omega arith) in
+    rw add-one at more ∙ ap (λ x. x + f n) (sum_listed n f)

@@ -4,17 +4,19 @@
 ghost use Rattle.std.specs.Prelude.{◌≡◌, ℕ, ◌^◌, ◌<◌, length, slice_index};
 
 mod laws;
-mod places;
 mod scale;
 mod tallying;
 
 pub use laws::parts_down_add;
 pub use tallying::Tallying;
 
+// How many places there are.
+const PLACES: usize = 64;
+
 // That there are 64 counts which fit is part of the type, so that the laws hold for all values.
-#[derive(Clone, Copy)]
+#[derive(Clone, Copy, PartialEq, Eq, Debug)]
 pub struct ByMissed {
-    pub counts: [u64; 64],
+    pub counts: [u64; PLACES],
     ghost whole: { length counts ≡ 64 },
     ghost fits: { (i : ℕ) → slice_index counts i < 2 ^ 64 },
 }
