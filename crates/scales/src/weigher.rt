@@ -1,5 +1,7 @@
 // A weigher names the scale that it weighs on and the most parts that a plan may have on it, and turns a part's forecast into
 // the weight of the part being up and that of its being down, always alike.
+//
+// Each scale's weigher is an impl of its own: it is a number and two weights, which as parameters would be no fewer.
 ghost use Rattle.std.specs.Prelude.{◌≡◌, ℕ};
 
 use super::Scale;
