@@ -1,3 +1,1 @@
 pub mod Enclosure
-pub mod Reading
-pub mod Rounding

@@ -28,15 +28,10 @@ impl Weigher for Forecasting {
     ghost down = { forecasting.down };
 
     fn up(&self, forecast: u32) -> Ends {
-        let up = chance(forecast);
-        Ends { low: up, high: up }
+        Ends::even(chance(forecast))
     }
 
     fn down(&self, forecast: u32) -> Ends {
-        let down = UNIT - chance(forecast);
-        Ends {
-            low: down,
-            high: down,
-        }
+        Ends::even(UNIT - chance(forecast))
     }
 }

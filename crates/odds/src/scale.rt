@@ -1,9 +1,22 @@
 // The scale of odds, on plain pairs of ends.
-ghost use Rattle.odds.specs.Odds.{odds};
+ghost use Rattle.std.specs.Prelude.{◌≡◌};
+ghost use Rattle.odds.specs.Odds.{odds, even};
 
 use crate::ends::{Ends, UNIT};
 use crate::odds::Odds;
 use scales::Scale;
+
+impl Ends {
+    // A chance that is known exactly.
+    pub(crate) fn even(end: u64) -> Ends
+        ensures { result ≡ even end }
+    {
+        Ends {
+            low: end,
+            high: end,
+        }
+    }
+}
 
 impl Scale for Ends {
     ghost zero = { odds.zero };
@@ -15,21 +28,18 @@ impl Scale for Ends {
     ghost times = { odds.times };
 
     fn zero() -> Ends {
-        Ends { low: 0, high: 0 }
+        Ends::even(0)
     }
 
     fn one() -> Ends {
-        Ends {
-            low: UNIT,
-            high: UNIT,
-        }
+        Ends::even(UNIT)
     }
 
     fn plus(self, other: Ends) -> Ends {
-        Odds::read(self).plus(Odds::read(other)).write()
+        Ends::from(Odds::from(self).plus(Odds::from(other)))
     }
 
     fn times(self, other: Ends) -> Ends {
-        Odds::read(self).times(Odds::read(other)).write()
+        Ends::from(Odds::from(self).times(Odds::from(other)))
     }
 }

@@ -1,15 +1,15 @@
 // Sums and products of odds.
-ghost use Rattle.std.specs.Prelude.{◌≡◌, ◌≤◌};
-ghost use Rattle.odds.specs.Odds.{pair, reading, sum, product, unit, rounded_down, rounded_up};
+ghost use Rattle.std.specs.Prelude.{◌≡◌};
+ghost use Rattle.odds.specs.Odds.{pair, reading, sum, product};
 
 use super::Odds;
 use crate::ends::{Ends, UNIT};
 
-impl Odds {
-    // The odds that a plain pair is read as: 0 to U where its ends are none that odds can have.
-    pub fn read(held: Ends) -> Odds
-        ensures { pair result ≡ reading held }
-    {
+// The odds that a plain pair is read as: 0 to U where its ends are none that odds can have.
+impl From<Ends> for Odds {
+    ghost from_gives = { λ held read. pair read ≡ reading held };
+
+    fn from(held: Ends) -> Odds {
         if held.low <= held.high && held.high <= UNIT {
             Odds {
                 low: held.low,
@@ -19,17 +19,21 @@ impl Odds {
             Odds { low: 0, high: UNIT }
         }
     }
+}
 
-    // The two ends as a plain pair.
-    pub fn write(self) -> Ends
-        ensures { result ≡ pair self }
-    {
+// The two ends as a plain pair.
+impl From<Odds> for Ends {
+    ghost from_gives = { λ odds written. written ≡ pair odds };
+
+    fn from(odds: Odds) -> Ends {
         Ends {
-            low: self.low,
-            high: self.high,
+            low: odds.low,
+            high: odds.high,
         }
     }
+}
 
+impl Odds {
     // Adds the ends, each capped at U.
     pub fn plus(self, other: Odds) -> Odds
         ensures { pair result ≡ sum (pair self) (pair other) }
@@ -45,24 +49,8 @@ impl Odds {
         ensures { pair result ≡ product (pair self) (pair other) }
     {
         Odds {
-            low: product_down(self.low, other.low),
-            high: product_up(self.high, other.high),
+            low: self.low * other.low / UNIT,
+            high: (self.high * other.high).div_ceil(UNIT),
         }
     }
-}
-
-// A product in units of 1/U, rounded down.
-fn product_down(a: u64, b: u64) -> u64
-    requires { (a ≤ unit) × (b ≤ unit) }
-    ensures { result ≡ rounded_down a b }
-{
-    a * b / UNIT
-}
-
-// A product in units of 1/U, rounded up.
-fn product_up(a: u64, b: u64) -> u64
-    requires { (a ≤ unit) × (b ≤ unit) }
-    ensures { result ≡ rounded_up a b }
-{
-    (a * b + (UNIT - 1)) / UNIT
 }
