@@ -6,7 +6,7 @@ ghost use Rattle.odds.specs.Odds.{forecasting, unit};
 use crate::ends::{Ends, UNIT};
 use scales::{Scale, Weigher};
 
-#[derive(Clone, Copy)]
+#[derive(Clone, Copy, PartialEq, Eq, Debug)]
 pub struct Forecasting;
 
 // The chance of a forecast, capped at certainty.

@@ -1,5 +1,6 @@
 // A lawful scale keeps the laws of a semiring for all its values, so that a sum over patterns does not depend on how it is
-// worked out. Each function promises some of the laws; its body is empty, and the proof is owed by each scale.
+// worked out. Each function promises some of the laws; its body is empty, and the proof is owed by each scale. As ghost members
+// they would be no plainer: their proofs, which are long, would stand in src/ and specs/.
 //
 // Times need not commute.
 ghost use Rattle.scales.specs.Semiring.{PlusLaws, TimesLaws, Distributes, Absorbs};

@@ -5,7 +5,7 @@ ghost use Rattle.scales.specs.Tallies.{tallying};
 use super::ByMissed;
 use crate::{Scale, Weigher};
 
-#[derive(Clone, Copy)]
+#[derive(Clone, Copy, PartialEq, Eq, Debug)]
 pub struct Tallying;
 
 impl Weigher for Tallying {

@@ -5,7 +5,7 @@ ghost use Rattle.scales.specs.Counts.{counting};
 use super::Count;
 use crate::{Scale, Weigher};
 
-#[derive(Clone, Copy)]
+#[derive(Clone, Copy, PartialEq, Eq, Debug)]
 pub struct Counting;
 
 impl Weigher for Counting {

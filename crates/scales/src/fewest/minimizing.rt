@@ -4,7 +4,7 @@ ghost use Rattle.scales.specs.Fewests.{minimizing};
 use super::Fewest;
 use crate::{Scale, Weigher};
 
-#[derive(Clone, Copy)]
+#[derive(Clone, Copy, PartialEq, Eq, Debug)]
 pub struct Minimizing;
 
 impl Weigher for Minimizing {
