@@ -2,7 +2,7 @@
 use super::Count;
 use crate::{LawfulScale, Scale};
 
-#[tactic(auto, using(crate::proofs::SameCount::same_count, crate::proofs::Modulo::mod_times, crate::proofs::Modulo::times_mod))]
+#[tactic(auto, using(crate::proofs::SameCount::laws))]
 impl LawfulScale for Count {
     fn plus_laws() {}
 
