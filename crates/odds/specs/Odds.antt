@@ -1,5 +1,5 @@
 -- Odds: chances between a low and a high end, in units of 1/U.
-use Rattle.std.specs.Prelude.{ℕ, ◌+◌, ◌-◌, ◌*◌, ◌/◌, min, cond, ◌&&◌, nat_le}
+use Rattle.std.specs.Prelude.{ℕ, ◌+◌, ◌-◌, ◌*◌, ◌/◌, min, if◌then◌else◌, ◌&&◌, nat_le}
 use Rattle.scales.specs.declared.scale.Scale.{Ghosts as ScaleMeaning}
 use Rattle.scales.specs.declared.weigher.Weigher.{Ghosts as WeigherMeaning}
 use Rattle.odds.specs.declared.odds.Odds.{Odds}
@@ -24,7 +24,7 @@ pair o = ends o.low o.high
 
 -- What a pair is read as: itself where low ≤ high ≤ U, otherwise 0 to U.
 abbrev pub reading : Ends → Ends
-reading e = cond (nat_le e.low e.high && nat_le e.high unit) e (ends 0 unit)
+reading e = if nat_le e.low e.high && nat_le e.high unit then e else ends 0 unit
 
 -- A sum, capped at U.
 abbrev pub capped_sum : ℕ → ℕ → ℕ

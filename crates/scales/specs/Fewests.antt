@@ -1,5 +1,5 @@
 -- The fewest parts that have to be down.
-use Rattle.std.specs.Prelude.{ℕ, ◌+◌, ◌^◌, ◌<◌, min, cond, Some, None, Option, ◌==◌}
+use Rattle.std.specs.Prelude.{ℕ, ◌+◌, ◌^◌, ◌<◌, min, if◌then◌else◌, Some, None, Option, ◌==◌}
 use Rattle.std.proofs.Common.{arith}
 use Rattle.scales.specs.declared.scale.Scale.{Ghosts as ScaleMeaning}
 use Rattle.scales.specs.declared.weigher.Weigher.{Ghosts as WeigherMeaning}
@@ -33,4 +33,4 @@ minimizing = record { LIMIT = 512; up = λ _ _. fewest 0; down = λ _ _. fewest 
 
 -- The number, unless it is read as none.
 abbrev pub least : Fewest → Option ℕ
-least f = cond (f.parts == none) None (Some f.parts)
+least f = if f.parts == none then None else Some f.parts

@@ -1,5 +1,5 @@
 -- Counts of patterns by how many parts they have down.
-use Rattle.std.specs.Prelude.{◌≡◌, ℕ, zero, suc, ◌+◌, ◌-◌, ◌*◌, cond, List, take, ◌==◌, slice_index}
+use Rattle.std.specs.Prelude.{◌≡◌, ℕ, zero, suc, ◌+◌, ◌-◌, ◌*◌, if◌then◌else◌, List, take, ◌==◌, slice_index}
 use Rattle.scales.specs.declared.scale.Scale.{Ghosts as ScaleMeaning}
 use Rattle.scales.specs.declared.weigher.Weigher.{Ghosts as WeigherMeaning}
 use Rattle.scales.specs.declared.by_missed.ByMissed.{ByMissed}
@@ -16,7 +16,7 @@ tally f = record { counts = places f; whole = places_whole f; fits = places_fit 
 
 -- 1 at one place, 0 elsewhere.
 abbrev pub only : ℕ → ℕ → ℕ
-only place i = cond (i == place) 1 0
+only place i = if i == place then 1 else 0
 
 -- f 0 + f 1 + .. + f (n - 1)
 unfoldable pub sum_below : ℕ → (ℕ → ℕ) → ℕ
