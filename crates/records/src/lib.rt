@@ -6,5 +6,5 @@ mod reader;
 mod record;
 
 pub use kind::Kind;
-pub use reader::Reader;
+pub use reader::{Reader, Unread};
 pub use record::Record;

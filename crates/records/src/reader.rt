@@ -1,15 +1,24 @@
 // Reads the records of an input, first to last. After a refusal nothing more is read, since nothing says where the next record
 // would begin.
-ghost use Rattle.std.specs.Prelude.{◌≡◌, ◌<◌, length};
-ghost use Rattle.records.specs.Reading.{handed, reading, told, next_at, place_after};
+ghost use Rattle.std.specs.Prelude.{◌≡◌, ◌-◌, ◌<◌, length};
+ghost use Rattle.std.specs.Iterator.{at_most};
+ghost use Rattle.records.specs.Reading.{handed, reading, ReadsOne};
 
 use super::{Kind, Record};
 use refusals::Refusal;
 
-#[derive(Drop)]
+// The records of an input, one after the other.
+#[derive(Clone, Debug, Drop)]
 pub struct Reader<'a> {
     input: &'a [u8],
     place: usize,
+}
+
+// A record that cannot be read: where it begins, and why.
+#[derive(Clone, Copy, PartialEq, Eq, Debug)]
+pub struct Unread {
+    pub place: usize,
+    pub reason: Refusal,
 }
 
 impl<'a> Reader<'a> {
@@ -26,13 +35,17 @@ impl<'a> Reader<'a> {
     {
         self.place
     }
+}
 
-    // The next record, or why it cannot be read; none at the end.
-    pub fn next_record(&mut self) -> Option<Result<Record<'a>, Refusal>>
-        ensures reply { told result ≡ next_at self.old.input.now self.old.place }
-        ensures same { self.new.input.now ≡ self.old.input.now }
-        ensures after { self.new.place ≡ place_after self.old.input.now self.old.place }
-    {
+// Each record, or why it cannot be read; none at the end.
+impl<'a> Iterator for Reader<'a> {
+    type Item = Result<Record<'a>, Unread>;
+
+    ghost next_gives = { ReadsOne };
+
+    ghost remaining = { λ reader. at_most (length reader.input.now - reader.place) };
+
+    fn next(&mut self) -> Option<Self::Item> {
         let Reader { input, place } = self;
         let start = *place;
         if start >= input.len() {
@@ -43,7 +56,10 @@ impl<'a> Reader<'a> {
             Ok(record) => start + 1 + record.body().len(),
             Err(_) => input.len(),
         };
-        Some(read)
+        Some(read.map_err(|reason| Unread {
+            place: start,
+            reason,
+        }))
     }
 }
 
@@ -52,13 +68,9 @@ fn read_at<'a>(input: &'a [u8], place: usize) -> Result<Record<'a>, Refusal>
     requires { place < length input.now }
     ensures { handed result ≡ reading input.now place }
 {
-    let Some(kind) = Kind::of(input[place]) else {
-        return Err(Refusal::UnknownKind);
-    };
-    let start = place + 1;
-    let width = kind.width();
-    if input.len() - start < width {
-        return Err(Refusal::CutRecord);
-    }
-    Ok(Record::new(kind, place, &input[start..start + width]))
+    let kind = Kind::try_from(input[place])?;
+    let body = input[place + 1..]
+        .get(..kind.width())
+        .ok_or(Refusal::CutRecord)?;
+    Ok(Record::new(kind, place, body))
 }

@@ -5,35 +5,65 @@ ghost use Rattle.records.specs.Reading.{entry};
 
 use super::Kind;
 
-#[derive(Clone, Copy)]
+#[derive(Clone, Copy, PartialEq, Eq, Debug)]
 pub enum Record<'a> {
-    Add { place: usize, body: &'a [u8] },
-    Settle { place: usize, body: &'a [u8] },
-    Drop { place: usize, body: &'a [u8] },
-    Evaluate { place: usize, body: &'a [u8] },
+    // The forecasts of a pass, four bytes each.
+    Add { place: usize, body: &'a [[u8; 4]] },
+    // A pass in two bytes, a part and an outcome.
+    Settle { place: usize, body: &'a [u8; 4] },
+    // Nothing.
+    Drop { place: usize, body: &'a [u8; 0] },
+    // A rule, its k and a scale.
+    Evaluate { place: usize, body: &'a [u8; 3] },
 }
 
 impl<'a> Record<'a> {
+    // Where its byte of kind stands.
+    pub fn place(self) -> usize
+        ensures { result ≡ (entry self.entry).place }
+    {
+        match self {
+            Record::Add { place, .. } => place,
+            Record::Settle { place, .. } => place,
+            Record::Drop { place, .. } => place,
+            Record::Evaluate { place, .. } => place,
+        }
+    }
+
+    // The bytes behind it, of which there are as many as its kind has.
     pub fn body(self) -> &'a [u8]
         ensures { result.now ≡ (entry self.entry).body }
     {
         match self {
-            Record::Add { body, .. } => body,
+            Record::Add { body, .. } => body.as_flattened(),
             Record::Settle { body, .. } => body,
             Record::Drop { body, .. } => body,
             Record::Evaluate { body, .. } => body,
         }
     }
 
+    // A record whose body is as long as its kind has it.
     pub(super) fn new(kind: Kind, place: usize, body: &'a [u8]) -> Record<'a>
         requires { length body.now ≡ width_of kind }
         ensures { entry result ≡ record { kind = kind; place = place; body = body.now } }
     {
         match kind {
-            Kind::Add(_) => Record::Add { place, body },
-            Kind::Settle => Record::Settle { place, body },
-            Kind::Drop => Record::Drop { place, body },
-            Kind::Evaluate => Record::Evaluate { place, body },
+            Kind::Add(_) => Record::Add {
+                place,
+                body: body.as_chunks().0,
+            },
+            Kind::Settle => Record::Settle {
+                place,
+                body: body.as_array().unwrap(),
+            },
+            Kind::Drop => Record::Drop {
+                place,
+                body: body.as_array().unwrap(),
+            },
+            Kind::Evaluate => Record::Evaluate {
+                place,
+                body: body.as_array().unwrap(),
+            },
         }
     }
 }
