@@ -1,3 +1,4 @@
+pub mod Fours
 pub mod OnlyText
 pub mod SomeText
 pub mod Turning

@@ -1,10 +1,9 @@
 -- An input has a text, since each record takes the reader on.
-use Rattle.std.proofs.Common.{◌≡◌, ℕ, zero, suc, ◌+◌, ◌<◌, ◌≤◌, ltb, List, ◌++◌, length, Some, None, Ok, Err, Option, Result, refl, arith}
-use Rattle.std.proofs.lemmas.Bool.{cond-false, le-ltb}
+use Rattle.std.proofs.Common.{◌≡◌, ℕ, zero, suc, ◌+◌, ◌<◌, ◌≤◌, List, ◌++◌, length, Some, None, Ok, Err, Option, Result, refl, arith}
 use Rattle.refusals.specs.declared.Refusal.{Refusal}
 use Rattle.plans.specs.Model.{Model}
 use Rattle.records.specs.Reading.{Entry, next_at}
-use Rattle.records.proofs.Framing.{told_within}
+use Rattle.records.proofs.Framing.{none_from_end, told_within}
 use Rattle.replay.specs.Answers.{record_line, record_plan, closing_line}
 use Rattle.printing.specs.Lines.{refusal_line}
 use Rattle.replay.specs.Says.{Says, ended, stopped, answered}
@@ -20,7 +19,7 @@ text_from input place plan later (Some (Ok entry)) e =
 
 text_within : (turns : ℕ) (input : List ℕ) (place : ℕ) (plan : Model) → length input ≤ place + turns → (text : List ℕ) × Says input place plan text
 text_within zero input place plan h =
-    (closing_line plan, ended (cond-false (ltb place (length input)) _ _ (le-ltb place (length input) (omega arith))))
+    (closing_line plan, ended (none_from_end input place (omega arith)))
 text_within (suc turns) input place plan h =
     text_from input place plan (λ q m onward within. text_within turns input q m (omega arith)) (next_at input place) refl
 

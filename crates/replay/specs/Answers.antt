@@ -9,7 +9,9 @@ use Rattle.plans.specs.Model.{Model, Change, size, reply, after}
 use Rattle.plans.specs.Model as TheModel
 use Rattle.records.specs.declared.kind.Kind.{Kind}
 use Rattle.records.specs.declared.kind.Kind.TheVariants as TheKinds
-use Rattle.records.specs.Reading.{Entry}
+use Rattle.records.specs.declared.reader.Unread.{Unread}
+use Rattle.records.specs.declared.record.Record.{Record}
+use Rattle.records.specs.Reading.{Entry, entry}
 use Rattle.replay.specs.declared.question.Question.{Question}
 use Rattle.replay.specs.declared.question.RuleKind.{RuleKind}
 use Rattle.replay.specs.declared.question.RuleKind.TheVariants as TheRules
@@ -76,6 +78,16 @@ record_line entry plan = line_by entry.kind entry.place entry.body plan
 -- The plan that a record leaves of a plan.
 abbrev pub record_plan : Entry → Model → Model
 record_plan entry plan = plan_by entry.kind entry.body plan
+
+-- The line of what a reader hands out: a record that cannot be read is declined.
+abbrev pub read_line : Result Record Unread → Model → List ℕ
+read_line (Ok read) plan = record_line (entry read) plan
+read_line (Err unread) plan = refusal_line unread.place unread.reason
+
+-- The plan after it.
+abbrev pub read_plan : Result Record Unread → Model → Model
+read_plan (Ok read) plan = record_plan (entry read) plan
+read_plan (Err unread) plan = plan
 
 -- The last line.
 abbrev pub closing_line : Model → List ℕ

@@ -1,6 +1,6 @@
 pub mod Answers
 pub mod Evaluations
 pub mod Fields
+pub mod Lines
 pub mod Questions
 pub mod Says
-pub mod Turns

@@ -1,32 +1,35 @@
-// Numbers in the body of a record, the highest byte first.
-ghost use Rattle.std.specs.Prelude.{◌≡◌, ◌+◌, ◌*◌, ◌/◌, ◌≤◌, length, take};
-ghost use Rattle.replay.specs.Fields.{two_at, four_at, forecasts_of};
+// Values in the body of a record, numbers with the highest byte first.
+ghost use Rattle.std.specs.Prelude.{◌≡◌, ◌<◌, ◌==◌, true, false, length, MatchResult, if◌then◌else◌};
+ghost use Rattle.std.specs.List.{flat_map};
+ghost use Rattle.refusals.specs.declared.Refusal.TheVariants.{OddPass, UnknownByte};
+ghost use Rattle.replay.specs.Fields.{forecasts_of};
 
-// The most forecasts of a record.
-pub(super) const LONGEST: usize = 8;
+use arrayvec::ArrayVec;
+use refusals::Refusal;
 
-pub(super) fn two(body: &[u8], i: usize) -> u16
-    requires { i + 2 ≤ length body.now }
-    ensures { result ≡ two_at body.now i }
+// The most forecasts of a pass.
+const MOST: usize = 8;
+
+// The forecasts of a pass, four bytes each. More than a pass has are declined, as a plan declines them.
+#[tactic(auto, using(crate::proofs::Fours::forecasts_so_far))]
+pub(super) fn forecasts(body: &[[u8; 4]]) -> Result<ArrayVec<u32, MOST>, Refusal>
+    ensures { MatchResult result (λ list. list.items ≡ forecasts_of (flat_map (λ x. x) body.now)) (λ reason. (reason ≡ OddPass) × (8 < length body.now)) }
 {
-    256 * u16::from(body[i]) + u16::from(body[i + 1])
-}
-
-fn four(body: &[u8], i: usize) -> u32
-    requires { i + 4 ≤ length body.now }
-    ensures { result ≡ four_at body.now i }
-{
-    65536 * u32::from(two(body, i)) + u32::from(two(body, i + 2))
-}
-
-// Writes the forecasts of a body to the front of a list, and answers how many there are.
-pub(super) fn forecasts(body: &[u8], list: &mut [u32; LONGEST]) -> usize
-    requires { length body.now ≤ 32 }
-    ensures { (result ≤ 8) × (take result list.new ≡ forecasts_of body.now) }
-{
-    let count = body.len() / 4;
-    for j in 0..count {
-        list[j] = four(body, 4 * j);
+    let mut list = ArrayVec::new();
+    for four in body {
+        list.try_push(u32::from_be_bytes(*four))
+            .map_err(|_| Refusal::OddPass)?;
     }
-    count
+    Ok(list)
+}
+
+// Whether an outcome is up: 1 is, 0 is down.
+pub(super) fn is_up(outcome: u8) -> Result<bool, Refusal>
+    ensures { result ≡ (if outcome == 1 then Ok true else (if outcome == 0 then Ok false else Err UnknownByte)) }
+{
+    match outcome {
+        1 => Ok(true),
+        0 => Ok(false),
+        _ => Err(Refusal::UnknownByte),
+    }
 }

@@ -1,65 +1,71 @@
 // What an evaluation record asks: which rule, with which k, on which scale.
-ghost use Rattle.std.specs.Prelude.{◌≡◌, length};
+ghost use Rattle.std.specs.Prelude.{◌≡◌};
+ghost use Rattle.std.specs.Option.{ok_or};
+ghost use Rattle.refusals.specs.declared.Refusal.TheVariants.{UnknownByte};
 ghost use Rattle.replay.specs.Questions.{rule_of, scale_of, question_of};
 
 use refusals::Refusal;
 
 // The rules that a record can name.
-#[derive(Clone, Copy)]
+#[derive(Clone, Copy, PartialEq, Eq, Debug)]
 pub(super) enum RuleKind {
     Linear,
 }
 
 // The scales that a record can name.
-#[derive(Clone, Copy)]
+#[derive(Clone, Copy, PartialEq, Eq, Debug)]
 pub(super) enum ScaleKind {
     Count,
 }
 
-#[derive(Clone, Copy)]
+// The rule, its k and the scale.
+#[derive(Clone, Copy, PartialEq, Eq, Debug)]
 pub(super) struct Question {
     pub(super) rule: RuleKind,
     pub(super) k: usize,
     pub(super) scale: ScaleKind,
 }
 
-impl RuleKind {
-    fn of(byte: u8) -> Option<RuleKind>
-        ensures { result ≡ rule_of byte }
-    {
+// The rule that a byte names.
+impl TryFrom<u8> for RuleKind {
+    type Error = Refusal;
+
+    ghost try_from_gives = { λ byte rule. rule ≡ ok_or (rule_of byte) UnknownByte };
+
+    fn try_from(byte: u8) -> Result<RuleKind, Refusal> {
         match byte {
-            1 => Some(RuleKind::Linear),
-            _ => None,
+            1 => Ok(RuleKind::Linear),
+            _ => Err(Refusal::UnknownByte),
         }
     }
 }
 
-impl ScaleKind {
-    fn of(byte: u8) -> Option<ScaleKind>
-        ensures { result ≡ scale_of byte }
-    {
+// The scale that a byte names.
+impl TryFrom<u8> for ScaleKind {
+    type Error = Refusal;
+
+    ghost try_from_gives = { λ byte scale. scale ≡ ok_or (scale_of byte) UnknownByte };
+
+    fn try_from(byte: u8) -> Result<ScaleKind, Refusal> {
         match byte {
-            2 => Some(ScaleKind::Count),
-            _ => None,
+            2 => Ok(ScaleKind::Count),
+            _ => Err(Refusal::UnknownByte),
         }
     }
 }
 
-impl Question {
-    pub(super) fn read(body: &[u8]) -> Result<Question, Refusal>
-        requires { length body.now ≡ 3 }
-        ensures { result ≡ question_of body.now }
-    {
-        let Some(rule) = RuleKind::of(body[0]) else {
-            return Err(Refusal::UnknownByte);
-        };
-        let Some(scale) = ScaleKind::of(body[2]) else {
-            return Err(Refusal::UnknownByte);
-        };
+// The question that a body asks, in three bytes.
+impl TryFrom<&[u8; 3]> for Question {
+    type Error = Refusal;
+
+    ghost try_from_gives = { λ body asked. asked ≡ question_of body.now };
+
+    fn try_from(body: &[u8; 3]) -> Result<Question, Refusal> {
+        let [rule, k, scale] = *body;
         Ok(Question {
-            rule,
-            k: body[1] as usize,
-            scale,
+            rule: RuleKind::try_from(rule)?,
+            k: usize::from(k),
+            scale: ScaleKind::try_from(scale)?,
         })
     }
 }

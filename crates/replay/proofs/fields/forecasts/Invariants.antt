@@ -1,6 +1,6 @@
-use Rattle.std.proofs.Common.{◌≡◌, ℕ, ◌*◌, ◌<◌, length, get_or}
-use Rattle.replay.specs.Fields.{four_at}
+use Rattle.std.proofs.Common.{◌≡◌, map, take}
+use Rattle.std.specs.Int.{w32, from_be_bytes}
 use Rattle.replay.proofs.fields.forecasts.Given as goal
 
-abbrev pub invariant-loop-j : goal.invariant-loop-j
-invariant-loop-j l = (length l.list ≡ 8) × ((k : ℕ) → k < l.j → get_or l.list k 0 ≡ four_at l.body (4 * k))
+abbrev pub invariant-loop-four : goal.invariant-loop-four
+invariant-loop-four l = l.list.items ≡ map (from_be_bytes w32) (take l.four-index l.body)
