@@ -1,5 +1,5 @@
 -- What an evaluation replies, and what its three lists hold then.
-use Rattle.std.specs.Prelude.{◌≡◌, ℕ, zero, suc, Bool, cond, ◌||◌, List, length, Some, None, Ok, Err, Option, Result, ◌==◌, nat_lt, slice_index_or}
+use Rattle.std.specs.Prelude.{◌≡◌, ℕ, zero, suc, Bool, if◌then◌else◌, ◌||◌, List, length, Some, None, Ok, Err, Option, Result, ◌==◌, nat_lt, slice_index_or}
 use Rattle.refusals.specs.declared.Refusal.{Refusal}
 use Rattle.refusals.specs.declared.Refusal.TheVariants.{TooWide, TooManyParts, ShortList}
 use Rattle.plans.specs.declared.part.Part.{Part}
@@ -18,9 +18,9 @@ short_list m totals next answer = nat_lt totals m || (nat_lt next m || nat_lt an
 -- Why an evaluation is declined, if it is: a rule of m states, a plan of n parts, at most `most` parts, lists of so many places.
 abbrev pub refusal : ℕ → ℕ → ℕ → ℕ → ℕ → ℕ → Option Refusal
 refusal m n most totals next answer =
-    cond (m == 0) (Some TooWide)
-    (cond (nat_lt most n) (Some TooManyParts)
-    (cond (short_list m totals next answer) (Some ShortList) None))
+    if m == 0 then Some TooWide else
+    (if nat_lt most n then Some TooManyParts else
+    (if short_list m totals next answer then Some ShortList else None))
 
 -- How many places of the second work list are written: m once there is a pass.
 abbrev pub second_written : ℕ → ℕ → ℕ

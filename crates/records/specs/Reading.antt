@@ -1,5 +1,5 @@
 -- What the bytes of an input say, record by record.
-use Rattle.std.specs.Prelude.{◌≡◌, ℕ, ◌+◌, cond, List, length, take, drop, Some, None, Ok, Err, Option, Result, nat_le, IfSome, IfErr, nat_lt, slice_index}
+use Rattle.std.specs.Prelude.{◌≡◌, ℕ, ◌+◌, if◌then◌else◌, List, length, take, drop, Some, None, Ok, Err, Option, Result, nat_le, IfSome, IfErr, nat_lt, slice_index}
 use Rattle.std.specs.List.{flat_map}
 use Rattle.refusals.specs.declared.Refusal.{Refusal}
 use Rattle.refusals.specs.declared.Refusal.TheVariants.{UnknownKind, CutRecord}
@@ -33,9 +33,9 @@ handed (Err e) = Err e
 abbrev pub framed : List ℕ → ℕ → Option Kind → Result Entry Refusal
 framed input place None = Err UnknownKind
 framed input place (Some k) =
-    cond (nat_le (place + 1 + width_of k) (length input))
-    (Ok (record { kind = k; place = place; body = take (width_of k) (drop (place + 1) input) }))
-    (Err CutRecord)
+    if nat_le (place + 1 + width_of k) (length input)
+    then Ok (record { kind = k; place = place; body = take (width_of k) (drop (place + 1) input) })
+    else Err CutRecord
 
 -- The record that begins at a place of the input.
 abbrev pub reading : List ℕ → ℕ → Result Entry Refusal
@@ -43,7 +43,7 @@ reading input place = framed input place (kind_of (slice_index input place))
 
 -- What a reader at a place tells: the record there, or why it cannot be read; nothing at the end.
 abbrev pub next_at : List ℕ → ℕ → Option (Result Entry Refusal)
-next_at input place = cond (nat_lt place (length input)) (Some (reading input place)) None
+next_at input place = if nat_lt place (length input) then Some (reading input place) else None
 
 -- What the reader replies, by what it says; none at the end.
 abbrev pub told : Option (Result Record Unread) → Option (Result Entry Refusal)

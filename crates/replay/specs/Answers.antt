@@ -1,5 +1,5 @@
 -- What a record does to the plan, and the line that it prints.
-use Rattle.std.specs.Prelude.{ℕ, true, false, cond, ◌&&◌, List, [], length, Ok, Err, Result, ◌==◌, nat_le}
+use Rattle.std.specs.Prelude.{ℕ, true, false, if◌then◌else◌, ◌&&◌, List, [], length, Ok, Err, Result, ◌==◌, nat_le}
 use Rattle.refusals.specs.declared.Refusal.{Refusal}
 use Rattle.refusals.specs.declared.Refusal.TheVariants.{BadRule, UnknownByte}
 use Rattle.scales.specs.Counts.{counts, counting}
@@ -26,8 +26,8 @@ use Rattle.printing.specs.Values.{count_text}
 -- What a settle record asks: a pass, a part, and 1 for up or 0 for down.
 abbrev pub settling_of : List ℕ → Result Change Refusal
 settling_of body =
-    cond (byte_at body 3 == 1) (Ok (TheModel.Settle (two_at body 0) (byte_at body 2) true))
-    (cond (byte_at body 3 == 0) (Ok (TheModel.Settle (two_at body 0) (byte_at body 2) false)) (Err UnknownByte))
+    if byte_at body 3 == 1 then Ok (TheModel.Settle (two_at body 0) (byte_at body 2) true) else
+    (if byte_at body 3 == 0 then Ok (TheModel.Settle (two_at body 0) (byte_at body 2) false) else Err UnknownByte)
 
 -- The reply to a call on a plan, or to a record that asks for none.
 abbrev pub change_reply : Result Change Refusal → Model → Result Unit Refusal
@@ -50,7 +50,8 @@ scale_line place plan rule TheScales.Count = evaluation_line counts rule countin
 
 -- The line of an evaluation by the rule that is asked for, which is declined outside its limits.
 abbrev pub rule_line : ℕ → Model → RuleKind → ℕ → ScaleKind → List ℕ
-rule_line place plan TheRules.Linear k scale = cond (nat_le 1 k && nat_le k 63) (scale_line place plan (linear k) scale) (refusal_line place BadRule)
+rule_line place plan TheRules.Linear k scale =
+    if nat_le 1 k && nat_le k 63 then scale_line place plan (linear k) scale else refusal_line place BadRule
 
 -- The line of an evaluation record, which is declined where it names no known rule or scale.
 abbrev pub question_line : ℕ → Model → Result Question Refusal → List ℕ

@@ -1,5 +1,5 @@
 -- What an evaluation record asks, by the bytes of its body: the rule, its k and the scale.
-use Rattle.std.specs.Prelude.{ℕ, cond, List, Some, None, Ok, Err, Option, Result, ◌==◌}
+use Rattle.std.specs.Prelude.{ℕ, if◌then◌else◌, List, Some, None, Ok, Err, Option, Result, ◌==◌}
 use Rattle.refusals.specs.declared.Refusal.{Refusal}
 use Rattle.refusals.specs.declared.Refusal.TheVariants.{UnknownByte}
 use Rattle.replay.specs.declared.question.Question.{Question}
@@ -11,11 +11,11 @@ use Rattle.replay.specs.Fields.{byte_at}
 
 -- The rule that a byte names: 1 is linear.
 abbrev pub rule_of : ℕ → Option RuleKind
-rule_of byte = cond (byte == 1) (Some Linear) None
+rule_of byte = if byte == 1 then Some Linear else None
 
 -- The scale that a byte names: 2 is count.
 abbrev pub scale_of : ℕ → Option ScaleKind
-scale_of byte = cond (byte == 2) (Some Count) None
+scale_of byte = if byte == 2 then Some Count else None
 
 -- The question, if both are known.
 abbrev pub question : Option RuleKind → ℕ → Option ScaleKind → Result Question Refusal

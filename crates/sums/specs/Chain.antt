@@ -1,5 +1,5 @@
 -- The chain: totals by state, carried from pass to pass, for any rule and any scale.
-use Rattle.std.specs.Prelude.{Bool, true, false, cond, List, [], ◌∷◌, ℕ, zero, suc, eqb}
+use Rattle.std.specs.Prelude.{Bool, true, false, if◌then◌else◌, List, [], ◌∷◌, ℕ, zero, suc, ◌==◌}
 use Rattle.rules.specs.declared.verdict.Verdict.{Verdict}
 use Rattle.rules.specs.declared.verdict.Verdict.TheVariants.{Kept, Lost, Aside}
 use Rattle.rules.specs.Automaton.{Automaton}
@@ -14,7 +14,7 @@ place_of Aside = 2
 module _ {V : Type 0} (scale : ScaleMeaning V) where
   -- The sum with x where the test passes, otherwise what there was.
   abbrev pub add_if : Bool → V → V → V
-  add_if test sum x = cond test (scale.plus sum x) sum
+  add_if test sum x = if test then scale.plus sum x else sum
 
   -- The parts of a pass, each with its weights up and down.
   module _ {A : Type 0} (up down : A → V) where
@@ -47,12 +47,12 @@ module _ {V : Type 0} (scale : ScaleMeaning V) where
   module _ (rule : Automaton) where
     -- The totals before any pass: one at the first state, zero elsewhere.
     abbrev pub begun : ℕ → V
-    begun t = cond (eqb rule.first t) scale.one scale.zero
+    begun t = if rule.first == t then scale.one else scale.zero
 
     -- The sum at state t with what state s adds: total × good if s steps to t when made, then total × bad if it does when missed.
     abbrev pub spread_to : (ℕ → V) → V → V → ℕ → ℕ → V → V
     spread_to total good bad s t sum =
-        add_if (eqb (rule.step s false) t) (add_if (eqb (rule.step s true) t) sum (scale.times (total s) good)) (scale.times (total s) bad)
+        add_if (rule.step s false == t) (add_if (rule.step s true == t) sum (scale.times (total s) good)) (scale.times (total s) bad)
 
     -- The new total at state t, from the states below n: the sum from zero, by rising state.
     abbrev pub reaching : (ℕ → V) → V → V → ℕ → ℕ → V
@@ -62,7 +62,7 @@ module _ {V : Type 0} (scale : ScaleMeaning V) where
     -- The sum of the totals of the states below n whose verdict has the place k, from zero by rising state.
     abbrev pub judged : (ℕ → V) → ℕ → ℕ → V
     judged total zero k = scale.zero
-    judged total (suc s) k = add_if (eqb (place_of (rule.verdict s)) k) (judged total s k) (total s)
+    judged total (suc s) k = add_if (place_of (rule.verdict s) == k) (judged total s k) (total s)
 
     module _ {A : Type 0} (up down : A → V) where
       -- The totals after one more pass.
