@@ -78,6 +78,7 @@ impl Session {
     }
 
     // Does what a record asks. A call on the plan that is accepted prints nothing.
+    // By a `match`, and not by a table of closures: the body of each case has a type of its own.
     fn carry_out(&mut self, record: Record<'_>, out: &mut String) -> Result<(), Unanswered>
         ensures text { Carries result out.old out.new (entry «record».entry).place (record_line (entry «record».entry) (passes self.old.plan)) }
         ensures after { passes self.new.plan ≡ record_plan (entry «record».entry) (passes self.old.plan) }
@@ -113,11 +114,13 @@ impl Session {
     }
 
     // Evaluates the plan as a record asks, by the rule that it names, and prints the line.
+    // Place and text are two parameters from here on: a struct of them would be made for one line, and taken apart to print it.
     fn evaluate(&mut self, place: usize, body: &[u8; 3], out: &mut String) -> Result<(), Unanswered>
         ensures text { Carries result out.old out.new place (question_line place (passes self.old.plan) (question_of body.now)) }
         ensures same { self.new.plan ≡ self.old.plan }
     {
         let asked = Question::try_from(body)?;
+        // Each rule has a type of its own, and is made in its arm.
         match asked.rule {
             RuleKind::Linear => {
                 let rule = Linear::new(asked.k)?;
@@ -126,7 +129,7 @@ impl Session {
         }
     }
 
-    // On the scale that is asked for.
+    // On the scale that is asked for. The lists of each scale have a type of their own, so each has an arm.
     fn evaluate_on<R: Rule>(
         &mut self,
         scale: ScaleKind,
