@@ -65,7 +65,8 @@ impl Scale for ByMissed {
     }
 }
 
-// Place i of a product: the sum of the products of all places that add up to i.
+// Place i of a product: the sum of the products of all places that add up to i. It stands apart, since no proof was found of a sum
+// within the closure of `times`.
 fn product_at(a: &[u64; PLACES], b: &[u64; PLACES], i: usize) -> u64
     requires { i < 64 }
     ensures { result ≡ convolution (λ j. slice_index a.now j) (λ j. slice_index b.now j) i % 2 ^ 64 }
