@@ -1,4 +1,4 @@
-// Odds as plus and times work on them.
+// Odds as plus and times work on them. Ghost fields, and no `Model`: whoever holds odds knows what holds of their ends.
 ghost use Rattle.std.specs.Prelude.{◌^◌, ◌≤◌};
 
 mod work;

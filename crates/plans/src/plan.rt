@@ -11,6 +11,7 @@ pub use iter::Passes;
 
 // A plan: passes in order, each a list of parts.
 // The first `count` ends cut the first `used` places of the table into passes.
+// No `Model`, which would show contracts the passes alone: they also say that a declined call leaves every place as it was.
 #[derive(Clone, Copy, Debug)]
 pub struct Plan {
     table: Table,
