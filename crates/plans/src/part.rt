@@ -36,7 +36,7 @@ impl Part {
         matches!(self.standing, Standing::Open)
     }
 
-    // Writes the outcome down.
+    // Writes the outcome down, the one place where an outcome becomes a standing.
     pub fn settle(&mut self, up: bool)
         ensures { self.new ≡ settled up self.old }
     {

@@ -12,6 +12,7 @@ pub use iter::Passes;
 // A plan: passes in order, each a list of parts.
 // The first `count` ends cut the first `used` places of the table into passes.
 // No `Model`, which would show contracts the passes alone: they also say that a declined call leaves every place as it was.
+// No `==` either: plans with the same passes may differ in places that are not in use.
 #[derive(Clone, Copy, Debug)]
 pub struct Plan {
     table: Table,

@@ -18,7 +18,7 @@ const LONGEST: usize = 8;
 const ONE: u32 = 1 << 30;
 
 // A plain store: which of the places are in use, the plan knows.
-// Arrays of a fixed length, and counts beside them in the plan, in the place of two lists that grow: a plan has no heap.
+// Arrays, and counts beside them in the plan, in the place of two lists that hold their length: only a plan has an invariant.
 #[derive(Clone, Copy, Debug)]
 pub(crate) struct Table {
     pub(crate) parts: [Part; PLACES],
@@ -64,6 +64,7 @@ impl Table {
         ensures parts { self.new.parts ≡ laid self.old.parts at (map open_part forecasts.now) }
         ensures ends { self.new.ends ≡ self.old.ends }
     {
+        // By place, since of the elements that an adapter over `iter_mut` lends nothing is known after.
         for (place, forecast) in (at..).zip(forecasts) {
             self.parts[place] = Part::open(*forecast);
         }

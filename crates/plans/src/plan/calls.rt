@@ -1,5 +1,6 @@
 // The calls that make a plan and change it. Each asks first whether it may, and only then writes.
-ghost use Rattle.std.specs.Prelude.{◌≡◌, ℕ, ◌<◌, ◌≤◌, Bool, false, [], length, take, is_ok, None, Ok, MatchOption, MatchResult};
+ghost use Rattle.std.specs.Prelude.{◌≡◌, ℕ, ◌<◌, ◌≤◌, Bool, [], length, take, None, Ok, MatchOption, MatchResult};
+ghost use Rattle.plans.specs.Calls.{Called};
 ghost use Rattle.plans.specs.Found.{HoldsPart, HoldsOpen, IsLast, Declined};
 ghost use Rattle.plans.specs.Model.{place, reply, after, Add, Settle, Drop};
 ghost use Rattle.plans.specs.Passes.{passes};
@@ -24,20 +25,16 @@ impl Plan {
     // Appends a pass of open parts with these forecasts.
     #[tactic(auto, using(crate::proofs::Answering::after_declined))]
     pub fn add(&mut self, forecasts: &[u32]) -> Result<(), Refusal>
-        ensures reply { result ≡ reply (Add forecasts.now) (passes self.old) }
-        ensures after { passes self.new ≡ after (Add forecasts.now) (passes self.old) }
-        ensures same { is_ok result ≡ false → self.new ≡ self.old }
+        ensures { Called (Add forecasts.now) self.old self.new result }
     {
         self.admits(forecasts)?;
         self.append(forecasts);
         Ok(())
     }
 
-    // Settles a part, up or down; its forecast stays.
+    // Settles a part, up or down; its forecast stays. A part is named by two numbers: a pair of them would be made for this call alone.
     pub fn settle(&mut self, pass: usize, part: usize, up: bool) -> Result<(), Refusal>
-        ensures reply { result ≡ reply (Settle pass part up) (passes self.old) }
-        ensures after { passes self.new ≡ after (Settle pass part up) (passes self.old) }
-        ensures same { is_ok result ≡ false → self.new ≡ self.old }
+        ensures { Called (Settle pass part up) self.old self.new result }
     {
         let k = self.open_place(pass, part)?;
         self.settle_at(k, up);
@@ -46,9 +43,7 @@ impl Plan {
 
     // Takes off the last pass.
     pub fn drop_last(&mut self) -> Result<(), Refusal>
-        ensures reply { result ≡ reply Drop (passes self.old) }
-        ensures after { passes self.new ≡ after Drop (passes self.old) }
-        ensures same { is_ok result ≡ false → self.new ≡ self.old }
+        ensures { Called Drop self.old self.new result }
     {
         let last = self.last_pass()?;
         self.keep(last);

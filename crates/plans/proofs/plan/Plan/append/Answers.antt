@@ -1,4 +1,5 @@
 -- One more pass keeps the invariant, and gives the plan that an accepted add leaves.
+-- The check does not find this alone, nor with its lemmas named on the function.
 use Rattle.std.proofs.Common.{length, ap, ◌∙◌, arith, length-set}
 use Rattle.plans.specs.Passes.{passes}
 use Rattle.plans.proofs.Adding.{count_below_places, end_within, length_added, at_most_one_added, rising_added, last_end_added, passes_added}

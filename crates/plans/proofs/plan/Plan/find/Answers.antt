@@ -1,4 +1,5 @@
 -- There is no such pass, or no such part of it, or it is found.
+-- The check does not find this alone, nor with its lemmas named on the function.
 use Rattle.std.proofs.Common.{◌-◌, ◌∙◌, sym, refl}
 use Rattle.std.proofs.lemmas.Iterator.{YieldsList-from_range}
 use Rattle.std.proofs.lemmas.Iterator.Consumers.{nth_from_yields_List}

@@ -1,4 +1,5 @@
 -- The part is not there, or settled, or open.
+-- The check does not find this alone, nor with its lemmas named on the function.
 use Rattle.std.proofs.Common.{◌≡◌, sym}
 use Rattle.std.proofs.lemmas.Option.{MatchOption-at_some, MatchOption-at_none}
 use Rattle.std.proofs.lemmas.Result.{err_from_is_err_and}

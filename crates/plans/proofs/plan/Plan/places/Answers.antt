@@ -1,4 +1,5 @@
 -- The pass stands where the invariant says.
+-- The check does not find this alone, nor with its lemmas named on the function.
 use Rattle.std.proofs.Common.{◌∙◌, arith}
 use Rattle.plans.proofs.Shape.{length_ends, count_is_length, holds_between}
 use Rattle.plans.proofs.plan.Plan.places.Goals as goal

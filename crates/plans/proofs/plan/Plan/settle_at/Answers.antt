@@ -1,4 +1,5 @@
 -- A settled part keeps the invariant, and gives the plan that an accepted settle leaves.
+-- The check does not find this alone, nor with its lemmas named on the function.
 use Rattle.std.proofs.Common.{length, sym, ap, ◌∙◌, arith}
 use Rattle.plans.specs.Model.{Settle}
 use Rattle.plans.specs.Parts.{settled}

@@ -1,4 +1,5 @@
 -- The part that is lent comes back settled.
+-- The check does not find this alone, nor with its lemmas named on the function.
 use Rattle.std.proofs.Common.{set, refl, ap, ◌∙◌}
 use Rattle.plans.specs.Parts.{settled, open_part}
 use Rattle.plans.proofs.Changing.{set_changed}
