@@ -19,7 +19,7 @@ pub record Entry : Type 0 where
 
 -- What a record that is handed out says. The forecasts of an add are its body in fours.
 abbrev pub entry : Record → Entry
-entry (TheRecords.Add p b) = record { kind = TheKinds.Add (length b.now); place = p; body = flat_map (λ x. x) b.now }
+entry (TheRecords.Add p b) = record { kind = TheKinds.Add (length b.fours.now); place = p; body = flat_map (λ x. x) b.fours.now }
 entry (TheRecords.Settle p b) = record { kind = TheKinds.Settle; place = p; body = b.now }
 entry (TheRecords.Drop p b) = record { kind = TheKinds.Drop; place = p; body = b.now }
 entry (TheRecords.Evaluate p b) = record { kind = TheKinds.Evaluate; place = p; body = b.now }

@@ -1,14 +1,14 @@
 // A record as it is handed out: its kind, its place, which is where its byte of kind stands, and its body, a part of the input.
-ghost use Rattle.std.specs.Prelude.{◌≡◌, length};
+ghost use Rattle.std.specs.Prelude.{◌≡◌, ◌≤◌, length};
 ghost use Rattle.records.specs.Kinds.{width_of};
 ghost use Rattle.records.specs.Reading.{entry};
 
-use super::Kind;
+use super::{Forecasts, Kind};
 
 #[derive(Clone, Copy, PartialEq, Eq, Debug)]
 pub enum Record<'a> {
-    // The forecasts of a pass, four bytes each.
-    Add { place: usize, body: &'a [[u8; 4]] },
+    // The forecasts of a pass.
+    Add { place: usize, body: Forecasts<'a> },
     // A pass in two bytes, a part and an outcome.
     Settle { place: usize, body: &'a [u8; 4] },
     // Nothing.
@@ -23,10 +23,10 @@ impl<'a> Record<'a> {
         ensures { result ≡ (entry self.entry).place }
     {
         match self {
-            Record::Add { place, .. } => place,
-            Record::Settle { place, .. } => place,
-            Record::Drop { place, .. } => place,
-            Record::Evaluate { place, .. } => place,
+            Record::Add { place, .. }
+            | Record::Settle { place, .. }
+            | Record::Drop { place, .. }
+            | Record::Evaluate { place, .. } => place,
         }
     }
 
@@ -35,7 +35,7 @@ impl<'a> Record<'a> {
         ensures { result.now ≡ (entry self.entry).body }
     {
         match self {
-            Record::Add { body, .. } => body.as_flattened(),
+            Record::Add { body, .. } => body.fours.as_flattened(),
             Record::Settle { body, .. } => body,
             Record::Drop { body, .. } => body,
             Record::Evaluate { body, .. } => body,
@@ -44,13 +44,16 @@ impl<'a> Record<'a> {
 
     // A record whose body is as long as its kind has it.
     pub(super) fn new(kind: Kind, place: usize, body: &'a [u8]) -> Record<'a>
-        requires { length body.now ≡ width_of kind }
+        requires whole { length body.now ≡ width_of kind }
+        requires few { width_of kind ≤ 32 }
         ensures { entry result ≡ record { kind = kind; place = place; body = body.now } }
     {
         match kind {
             Kind::Add(_) => Record::Add {
                 place,
-                body: body.as_chunks().0,
+                body: Forecasts {
+                    fours: body.as_chunks().0,
+                },
             },
             Kind::Settle => Record::Settle {
                 place,

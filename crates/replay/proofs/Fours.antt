@@ -1,13 +1,9 @@
 -- Forecasts as they stand in a body, four bytes each.
-use Rattle.std.proofs.Common.{◌≡◌, ℕ, zero, suc, ◌+◌, ◌-◌, ◌*◌, ◌/◌, ◌<◌, ◌≤◌, List, [], ◌∷◌, Err, length, get_or, map, take, refl, sym, ap, ◌∙◌, arith, length-append}
+use Rattle.std.proofs.Common.{◌≡◌, ℕ, zero, suc, ◌+◌, ◌-◌, ◌*◌, ◌/◌, ◌<◌, ◌≤◌, List, [], ◌∷◌, length, get_or, map, take, refl, ap, ◌∙◌, arith, length-append}
 use Rattle.std.specs.Int.{w32, from_be_bytes}
 use Rattle.std.specs.List.{flat_map}
 use Rattle.std.proofs.lemmas.List.FromFn.{fill_by_all}
 use Rattle.std.proofs.lemmas.List.{get_or-map, length-map, take_all, get_or-append_right, get_or_append_left}
-use Rattle.std.proofs.lemmas.Bool.Decides.{nat_tests}
-use Rattle.std.proofs.lemmas.Grind.{common_steps}
-use Rattle.refusals.specs.declared.Refusal.TheVariants.{OddPass}
-use Rattle.plans.specs.Model.{Model, Add, reply, after, if_accepted, done}
 use Rattle.replay.specs.Fields.{four_at, forecasts_of}
 
 -- Each list has four bytes.
@@ -51,16 +47,3 @@ forecasts_are fours h =
 pub forecasts_so_far : (n : ℕ) (fours : List (List ℕ)) → Fours fours → length fours ≤ n
     → map (from_be_bytes w32) (take n fours) ≡ forecasts_of (flat_map (λ x. x) fours)
 forecasts_so_far n fours h e = ap (map (from_be_bytes w32)) (take_all n fours e) ∙ forecasts_are fours h
-
-forecasts_many : (fours : List (List ℕ)) → Fours fours → length (forecasts_of (flat_map (λ x. x) fours)) ≡ length fours
-forecasts_many fours h = sym (ap length (forecasts_are fours h)) ∙ length-map fours (from_be_bytes w32)
-
--- A pass of more than eight forecasts is declined, and leaves the plan as it is.
-module _ (fours : List (List ℕ)) (plan : Model) where
-  pub many_declined : Fours fours → 8 < length fours → reply (Add (forecasts_of (flat_map (λ x. x) fours))) plan ≡ Err OddPass
-  unfolding reply
-  many_declined h e = let many = forecasts_many fours h in grind (arith, nat_tests, common_steps)
-
-  pub many_unchanged : Fours fours → 8 < length fours → after (Add (forecasts_of (flat_map (λ x. x) fours))) plan ≡ plan
-  unfolding after
-  many_unchanged h e = ap (λ r. if_accepted r (done (Add (forecasts_of (flat_map (λ x. x) fours))) plan) plan) (many_declined h e)

@@ -26,7 +26,7 @@ pub(super) struct Question {
     pub(super) scale: ScaleKind,
 }
 
-// The rule that a byte names.
+// The rule that a byte names. This impl and the next are alike in shape alone: each kind has bytes and cases of its own.
 impl TryFrom<u8> for RuleKind {
     type Error = Refusal;
 

@@ -17,7 +17,7 @@ use crate::unanswered::Unanswered;
 use crate::work::Lists;
 use plans::Plan;
 use printing::{put_end, put_refusal};
-use records::{Record, Unread};
+use records::{Forecasts, Record, Unread};
 use refusals::Refusal;
 use rules::{Linear, Rule};
 use scales::{Count, Counting};
@@ -93,13 +93,11 @@ impl Session {
     }
 
     // Adds the pass that a record describes.
-    #[tactic(auto, using(crate::proofs::Fours::many_declined, crate::proofs::Fours::many_unchanged))]
-    fn add(&mut self, body: &[[u8; 4]]) -> Result<(), Refusal>
-        ensures reply { result ≡ reply (Add (forecasts_of (flat_map (λ x. x) body.now))) (passes self.old.plan) }
-        ensures after { passes self.new.plan ≡ after (Add (forecasts_of (flat_map (λ x. x) body.now))) (passes self.old.plan) }
+    fn add(&mut self, body: Forecasts<'_>) -> Result<(), Refusal>
+        ensures reply { result ≡ reply (Add (forecasts_of (flat_map (λ x. x) body.entry.fours.now))) (passes self.old.plan) }
+        ensures after { passes self.new.plan ≡ after (Add (forecasts_of (flat_map (λ x. x) body.entry.fours.now))) (passes self.old.plan) }
     {
-        let list = forecasts(body)?;
-        self.plan.add(&list)
+        self.plan.add(&forecasts(body.fours))
     }
 
     // Settles the part that a record names.

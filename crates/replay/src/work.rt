@@ -11,7 +11,8 @@ use rules::Rule;
 use scales::{Scale, Weigher};
 use std::alloc::{AllocError, Global};
 
-// Two work lists of so many places, which an evaluation borrows as two slices, and the list of the answers.
+// Two work lists of so many places, and the list of the answers.
+// `Vec` and a ghost length: with a boxed array of a type parameter the borrow as a slice was not proved.
 #[derive(Drop)]
 pub(super) struct Lists<V, const PLACES: usize> {
     totals: Vec<V>,

@@ -1,3 +1,4 @@
+-- The check does not find this alone, nor with its lemmas named on the function.
 use Rattle.std.proofs.Common.{◌≡◌, ℕ, zero, suc, ◌*◌, ◌/◌, List, ◌++◌, length, take, drop, sym, ap, ◌∙◌, arith, length-drop}
 use Rattle.std.proofs.lemmas.List.{nil_from_length, take-append-drop}
 use Rattle.std.specs.List.{flat_map}
@@ -13,7 +14,7 @@ whole_again n (suc k) xs e =
 
 pub returns-in-Add : goal.returns-in-Add
 returns-in-Add c =
-    let long : length c.args.body.now ≡ 4 * c.in-Add.field-0 = c.requires ∙ ap width_of c.in-Add.is in
+    let long : length c.args.body.now ≡ 4 * c.in-Add.field-0 = c.requires.whole ∙ ap width_of c.in-Add.is in
     let many : length c.as_chunks.result.0.now ≡ c.in-Add.field-0 = omega arith in
     let whole : flat_map (λ x. x) c.as_chunks.result.0.now ≡ c.args.body.now =
     ap (flat_map (λ x. x)) c.as_chunks.ensures.front ∙ whole_again 4 (length c.args.body.now / 4) c.args.body.now (omega arith) in
