@@ -1,4 +1,4 @@
-// The lines that are printed.
+// The lines that are printed: each is one `writeln!` of values that print themselves.
 ghost use Rattle.printing.specs.Puts.{Puts};
 ghost use Rattle.printing.specs.Lines.{refusal_line, answer_line, end_line};
 

@@ -1,5 +1,5 @@
--- How conditions come to settle a verdict, and that they settle one verdict only.
-use Rattle.std.proofs.Common.{◌≡◌, ℕ, arith}
+-- How conditions come to settle a verdict.
+use Rattle.std.proofs.Common.{◌≡◌}
 use Rattle.rules.specs.declared.verdict.Verdict.{Verdict}
 use Rattle.rules.specs.declared.verdict.Verdict.TheVariants.{Kept, Lost}
 use Rattle.rules.specs.Settled.{Settles}
@@ -10,17 +10,17 @@ module _ {kept lost aside : Type 0} where
     kept_if = λ _. is;
     kept_only_if = λ _. k;
     lost_if = λ l. absurd (not_lost l);
-    lost_only_if = λ e. let z : ◌≡◌ {A = ℕ} 0 1 = cc in absurd (omega arith);
+    lost_only_if = λ e. absurd (cc);
     aside_if = λ a. absurd (not_aside a);
-    aside_only_if = λ e. let z : ◌≡◌ {A = ℕ} 0 1 = cc in absurd (omega arith);
+    aside_only_if = λ e. absurd (cc);
   }
 
   pub settles_lost : (v : Verdict) → v ≡ Lost → (kept → ⊥) → lost → (aside → ⊥) → Settles kept lost aside v
   settles_lost v is not_kept l not_aside = record {
     kept_if = λ k. absurd (not_kept k);
-    kept_only_if = λ e. let z : ◌≡◌ {A = ℕ} 0 1 = cc in absurd (omega arith);
+    kept_only_if = λ e. absurd (cc);
     lost_if = λ _. is;
     lost_only_if = λ _. l;
     aside_if = λ a. absurd (not_aside a);
-    aside_only_if = λ e. let z : ◌≡◌ {A = ℕ} 0 1 = cc in absurd (omega arith);
+    aside_only_if = λ e. absurd (cc);
   }

@@ -10,7 +10,8 @@ pub trait Judging: Rule {
     // What the rule's definition makes of a list of outcomes, with no word of states.
     ghost judges: { Self → List Bool → Verdict };
 
-    // A theorem: the automaton and the definition agree, for every rule of the type and every list.
+    // A theorem: the automaton and the definition agree, for every rule of the type and every list. A function, and no ghost member, whose
+    // proof could cite lemmas of specs/ alone.
     fn judged()
         ensures { (rule : Self) (outcomes : List Bool) → judgement (automaton Self.Rule rule) outcomes ≡ judges rule outcomes };
 }

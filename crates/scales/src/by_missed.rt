@@ -16,7 +16,7 @@ const PLACES: usize = 64;
 // That there are 64 counts which fit is part of the type, so that the laws hold for all values.
 #[derive(Clone, Copy, PartialEq, Eq, Debug)]
 pub struct ByMissed {
-    pub counts: [u64; PLACES],
+    pub counts: [u64; 64],
     ghost whole: { length counts ≡ 64 },
     ghost fits: { (i : ℕ) → slice_index counts i < 2 ^ 64 },
 }

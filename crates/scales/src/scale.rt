@@ -3,6 +3,8 @@
 //
 // None of the four is ever declined. What they mean is two values and two functions of two values, so asking changes nothing
 // and the same question has the same answer. Nothing more is asked of a scale; `LawfulScale` adds the laws of a semiring.
+//
+// Each scale is a type and an impl of its own, since what its values are and how they add differs in each.
 ghost use Rattle.std.specs.Prelude.{◌≡◌};
 
 pub trait Scale: Copy + Drop {

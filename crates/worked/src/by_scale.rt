@@ -4,6 +4,7 @@ use crate::trying::{answers, mixed, singles};
 use evaluation::evaluate;
 use odds::{Ends, Forecasting, UNIT};
 use plans::Plan;
+use printing::{Printed, put_answer};
 use refusals::Refusal;
 use rules::Linear;
 use scales::{Counting, Minimizing, Scale, Tallying, Weigher};
@@ -77,7 +78,8 @@ fn all_chances(rt: HostRuntime) -> Result<(), Fail> {
     Ok(())
 }
 
-// What an evaluation by linear 2 replies, in work lists of three and of so many places.
+// What an evaluation by linear 2 replies, in work lists of three and of so many places. They are made here again: a function that
+// also gave the answers would have to ask that three values fit into memory.
 fn replied<W: Weigher>(
     alloc: Global,
     plan: &Plan,
@@ -132,4 +134,51 @@ fn any_pair(rt: HostRuntime) {
     assert_eq!(rt; above.times(crossed), ends(0, UNIT));
     let third = ends(357_913_941, 357_913_942);
     assert_eq!(rt; third.times(third), ends(119_304_646, 119_304_648));
+}
+
+// The line of three answers, in a plan of so many parts.
+fn printed<V: Printed>(
+    rt: &impl Abort,
+    alloc: Global,
+    parts: usize,
+    kept: &V,
+    lost: &V,
+    aside: &V,
+    text: &str,
+) -> Result<(), Fail> {
+    let mut out = String::new(alloc);
+    put_answer(0, parts, kept, lost, aside, &mut out)?;
+    assert_eq!(rt; out.as_str(), text);
+    Ok(())
+}
+
+// The lines that the table of worked lines has, printed.
+#[test]
+fn lines_printed(rt: HostRuntime) -> Result<(), Fail> {
+    let alloc = rt.alloc();
+    let plan = singles(4)?;
+    let [kept, lost, aside] = answers(&rt, alloc, &plan, 2, &Counting)?;
+    printed(&rt, alloc, 4, &kept, &lost, &aside, "A 0 8 8 0\n")?;
+    let [kept, lost, aside] = answers(&rt, alloc, &plan, 2, &Tallying)?;
+    printed(
+        &rt,
+        alloc,
+        4,
+        &kept,
+        &lost,
+        &aside,
+        "A 0 1,4,3,0,0 0,0,3,4,1 0,0,0,0,0\n",
+    )?;
+    let [kept, lost, aside] = answers(&rt, alloc, &plan, 2, &Minimizing)?;
+    printed(&rt, alloc, 4, &kept, &lost, &aside, "A 0 0 2 none\n")?;
+    let [kept, lost, aside] = answers(&rt, alloc, &Plan::make(), 2, &Forecasting)?;
+    printed(
+        &rt,
+        alloc,
+        0,
+        &kept,
+        &lost,
+        &aside,
+        "A 0 1073741824-1073741824 0-0 0-0\n",
+    )
 }

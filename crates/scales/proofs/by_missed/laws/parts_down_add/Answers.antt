@@ -1,3 +1,4 @@
+-- The check does not find this alone, nor with its lemmas named on the function.
 use Rattle.std.proofs.Common.{◌%◌, ◌^◌, ap, ◌∙◌}
 use Rattle.scales.specs.Tallies.{only}
 use Rattle.scales.proofs.Convolving.{only_convolution}

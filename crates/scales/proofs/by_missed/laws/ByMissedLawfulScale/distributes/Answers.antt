@@ -1,3 +1,4 @@
+-- The check does not find this alone, nor with its lemmas named on the function.
 use Rattle.std.proofs.Common.{◌+◌, ◌%◌, ◌^◌, sym, ap, ◌∙◌}
 use Rattle.scales.specs.Tallies.{place, convolution}
 use Rattle.scales.proofs.Convolving.{convolution_plus, plus_convolution}

@@ -1,3 +1,4 @@
+-- The check does not find this alone, nor with its lemmas named on the function.
 use Rattle.std.proofs.Common.{◌+◌, arith}
 use Rattle.scales.specs.Places.{places_at}
 use Rattle.scales.specs.Tallies.{place}

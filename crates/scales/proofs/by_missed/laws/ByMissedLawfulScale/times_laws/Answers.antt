@@ -1,3 +1,4 @@
+-- The check does not find this alone, nor with its lemmas named on the function.
 use Rattle.std.proofs.Common.{◌%◌, ◌^◌, sym, ap, ◌∙◌}
 use Rattle.scales.specs.Tallies.{place, only, convolution}
 use Rattle.scales.proofs.Convolving.{convolution_assoc, one_convolution, convolution_one}
