@@ -28,7 +28,7 @@ fn add_at<V: Scale>(list: &mut [V], place: usize, value: V)
     list[place] = list[place].plus(value);
 }
 
-// Zero at every place.
+// Zero at every place. A loop: `fill` asks for a clone that cannot fail, and the proof of `fill_with` is longer than this.
 fn clear<V: Scale>(list: &mut [V])
     ensures { Holds V.zero (λ _. V.zero) list.new }
 {

@@ -26,7 +26,7 @@ pub enum Refusal {
 }
 
 impl Refusal {
-    // The number that callers and the program's output know the reason by.
+    // The number that callers and the program's output know the reason by. A method, since `u8::from` would not say which number.
     pub fn number(self) -> u8
         ensures { result ≡ number self }
     {

@@ -1,3 +1,4 @@
+-- The check does not find this alone, nor with its lemmas named on the function.
 use Rattle.std.proofs.Common.{refl}
 use Rattle.std.specs.Fmt.{digits}
 use Rattle.plans.specs.Model.{after, reply}

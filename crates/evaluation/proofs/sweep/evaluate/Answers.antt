@@ -1,3 +1,4 @@
+-- The check does not find this alone, nor with its lemmas named on the function.
 use Rattle.std.proofs.Common.{◌≡◌, length, rules, arith}
 use Rattle.std.proofs.lemmas.Bool.Decides.{nat_tests}
 use Rattle.plans.specs.Passes.{passes}

@@ -1,3 +1,4 @@
+-- The check does not find this alone, nor with its lemmas named on the function.
 use Rattle.std.proofs.Common.{arith}
 use Rattle.odds.specs.Odds.{reading}
 use Rattle.odds.proofs.Enclosure.{sum_encloses, product_encloses}
