@@ -14,6 +14,7 @@ mod tests;
 mod trying;
 
 // A theorem: the definitions value each plan of the table as it says.
+#[tactic(auto, unfolding(plans::specs::Model::after, plans::specs::Model::reply))]
 pub fn worked_plans()
     ensures { Worked }
 {}

@@ -11,6 +11,7 @@ impl LawfulScale for ByMissed {
 
     fn distributes() {}
 
+    #[tactic(auto, using(crate::proofs::SameTally::same_tally, crate::proofs::SameTally::left_factor, crate::proofs::SameTally::right_factor, crate::proofs::Convolving::zero_convolution, crate::proofs::Convolving::convolution_zero))]
     fn absorbs() {}
 }
 

@@ -1,4 +1,4 @@
--- The check does not find this alone, nor with its lemmas named on the function.
+-- The check does not find this, nor with these definitions named on the function: digits stays as it stands.
 use Rattle.std.proofs.Common.{refl}
 use Rattle.std.specs.Fmt.{digits}
 use Rattle.plans.specs.Model.{after, reply}

@@ -1,4 +1,4 @@
--- The check does not find this alone, nor with its lemmas named on the function.
+-- The check does not find this alone: its lemmas take functions and facts that only the answer names.
 use Rattle.std.proofs.Common.{◌≡◌, length, rules, arith}
 use Rattle.std.proofs.lemmas.Bool.Decides.{nat_tests}
 use Rattle.plans.specs.Passes.{passes}

@@ -1,5 +1,5 @@
 -- There is no such pass, or no such part of it, or it is found.
--- The check does not find this alone, nor with its lemmas named on the function.
+-- The check does not find this alone: its lemmas take functions and facts that only the answer names.
 use Rattle.std.proofs.Common.{◌-◌, ◌∙◌, sym, refl}
 use Rattle.std.proofs.lemmas.Iterator.{YieldsList-from_range}
 use Rattle.std.proofs.lemmas.Iterator.Consumers.{nth_from_yields_List}

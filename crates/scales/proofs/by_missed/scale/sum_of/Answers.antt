@@ -1,4 +1,4 @@
--- The check does not find this alone, nor with its lemmas named on the function.
+-- The check does not find this alone: its lemmas take functions and facts that only the answer names.
 use Rattle.std.proofs.Common.{◌^◌, ◌<◌, refl, sym, ap, subst, rules, arith}
 use Rattle.std.proofs.lemmas.Iterator.{serves_from_Range}
 use Rattle.scales.proofs.Closures.{summed}
