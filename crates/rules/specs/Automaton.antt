@@ -10,7 +10,7 @@ pub record Automaton : Type 0 where
   pub step : ℕ → Bool → ℕ
   pub verdict : ℕ → Verdict
 
--- The automaton that a rule of some type is.
+-- The automaton that a rule of some type is: a clause names the four functions of a rule at once by it.
 abbrev pub automaton : {X : Type 0} → RuleMeaning X → X → Automaton
 automaton meaning rule =
     record { states = meaning.states rule; first = meaning.first rule; step = meaning.step rule; verdict = meaning.verdict rule }
