@@ -14,7 +14,7 @@ use scales::{Scale, Weigher};
 // Values the plan by the rule on the weigher's scale, and answers m, the rule's number of states. The first three places of
 // `answer` are then the sums over the kept, the lost and the aside states, the first m places of `totals` the closing totals
 // by state, and those of `next` too if there was a pass. Every other place, and on a refusal every place, is as it was.
-// The lists are the caller's, each lent by itself, and so go on below as they came.
+// Plan, rule, weigher and lists are the caller's, each lent by itself, and go on below as they came.
 pub fn evaluate<R: Rule, W: Weigher>(
     plan: &Plan,
     rule: &R,

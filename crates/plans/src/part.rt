@@ -36,7 +36,7 @@ impl Part {
         matches!(self.standing, Standing::Open)
     }
 
-    // Writes the outcome down, the one place where an outcome becomes a standing.
+    // Writes the outcome down. No `From<bool>` for a standing: this would be its one use, and `from(up)` would not say which is up.
     pub fn settle(&mut self, up: bool)
         ensures { self.new ≡ settled up self.old }
     {

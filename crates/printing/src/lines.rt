@@ -21,7 +21,7 @@ pub fn put_end(parts: usize, passes: usize, out: &mut String) -> Result<(), Allo
     writeln!(out, "E {parts} {passes}")
 }
 
-// An evaluation: its three values, in a plan of so many parts.
+// An evaluation: its three values, in a plan of so many parts. Each by its name: of an array the contract would tell them by number.
 pub fn put_answer<V: Printed>(
     place: usize,
     parts: usize,

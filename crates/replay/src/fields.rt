@@ -10,7 +10,7 @@ use refusals::Refusal;
 // The most forecasts of a pass.
 const MOST: usize = 8;
 
-// Forecasts as numbers, from four bytes each.
+// Forecasts as numbers, from four bytes each. Of a parameter it is known that each has four; behind a field it is not.
 #[tactic(auto, using(crate::proofs::Fours::forecasts_so_far))]
 pub(super) fn forecasts(fours: &[[u8; 4]]) -> ArrayVec<u32, MOST>
     requires { length fours.now ≤ 8 }

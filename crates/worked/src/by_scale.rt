@@ -1,7 +1,6 @@
 // What the library answers on each scale, against a listing of all patterns, known numbers and its limits.
 use crate::listing::tallied;
-use crate::trying::{answers, mixed, singles};
-use evaluation::evaluate;
+use crate::trying::{answers, evaluated, mixed, singles};
 use odds::{Ends, Forecasting, UNIT};
 use plans::Plan;
 use printing::{Printed, put_answer};
@@ -78,8 +77,7 @@ fn all_chances(rt: HostRuntime) -> Result<(), Fail> {
     Ok(())
 }
 
-// What an evaluation by linear 2 replies, in work lists of three and of so many places. They are made here again: a function that
-// also gave the answers would have to ask that three values fit into memory.
+// What an evaluation by linear 2 replies, in work lists of three and of so many places.
 fn replied<W: Weigher>(
     alloc: Global,
     plan: &Plan,
@@ -89,11 +87,8 @@ fn replied<W: Weigher>(
 where
     W::Value: Clone,
 {
-    let rule = Linear::new(2)?;
-    let mut totals = vec![in alloc; W::Value::zero(); 3]?;
-    let mut next = vec![in alloc; W::Value::zero(); second]?;
     let mut answer = vec![in alloc; W::Value::zero(); 3]?;
-    Ok(evaluate(plan, &rule, weigher, &mut totals, &mut next, &mut answer))
+    evaluated(alloc, plan, 2, weigher, [3, second], &mut answer)
 }
 
 #[test]

@@ -67,7 +67,7 @@ fn outcomes(
 ) -> Result<Option<Vec<bool>>, AllocError> {
     let mut list = Vec::new(alloc);
     for pass in plan {
-        // No `?`: it would hand on that memory has run out, and a pattern that is not allowed is no failure.
+        // No `?`: a pattern that is not allowed is no error, and the one error here is want of memory.
         let Some(made) = pass_made(pass, marks) else {
             return Ok(None);
         };

@@ -1,6 +1,7 @@
 // Plans to try, and what an evaluation by linear answers on them.
 use evaluation::evaluate;
 use plans::Plan;
+use refusals::Refusal;
 use rules::Linear;
 use scales::{Scale, Weigher};
 use std::alloc::Global;
@@ -27,6 +28,25 @@ pub(super) fn mixed(one: &[u32; 1], three: &[u32; 3], two: &[u32; 2]) -> Result<
     Ok(plan)
 }
 
+// What an evaluation by linear k replies, in work lists of so many places.
+pub(super) fn evaluated<W: Weigher>(
+    alloc: Global,
+    plan: &Plan,
+    k: usize,
+    weigher: &W,
+    places: [usize; 2],
+    answer: &mut [W::Value],
+) -> Result<Result<usize, Refusal>, Fail>
+where
+    W::Value: Clone,
+{
+    let rule = Linear::new(k)?;
+    let [first, second] = places;
+    let mut totals = vec![in alloc; W::Value::zero(); first]?;
+    let mut next = vec![in alloc; W::Value::zero(); second]?;
+    Ok(evaluate(plan, &rule, weigher, &mut totals, &mut next, answer))
+}
+
 // The three answers by linear k.
 pub(super) fn answers<W: Weigher>(
     rt: &impl Abort,
@@ -38,13 +58,8 @@ pub(super) fn answers<W: Weigher>(
 where
     W::Value: Clone,
 {
-    let rule = Linear::new(k)?;
-    let mut totals = vec![in alloc; W::Value::zero(); 64]?;
-    let mut next = vec![in alloc; W::Value::zero(); 64]?;
     let mut answer = [W::Value::zero(); 3];
-    assert_eq!(rt;
-        evaluate(plan, &rule, weigher, &mut totals, &mut next, &mut answer),
-        Ok(k + 1)
-    );
+    let reply = evaluated(alloc, plan, k, weigher, [64, 64], &mut answer)?;
+    assert_eq!(rt; reply, Ok(k.saturating_add(1)));
     Ok(answer)
 }
