@@ -1,6 +1,5 @@
 -- What the bytes of an input say, record by record.
-use Rattle.std.specs.Prelude.{◌≡◌, ℕ, ◌+◌, if◌then◌else◌, List, length, take, drop, Some, None, Ok, Err, Option, Result, nat_le, IfSome, IfErr, nat_lt, slice_index}
-use Rattle.std.specs.List.{flat_map}
+use Rattle.std.specs.Prelude.{◌≡◌, ℕ, ◌+◌, ◌*◌, ◌/◌, ◌≤◌, if◌then◌else◌, List, length, take, drop, Some, None, Ok, Err, Option, Result, nat_le, IfSome, IfOk, IfErr, nat_lt, slice_index}
 use Rattle.refusals.specs.declared.Refusal.{Refusal}
 use Rattle.refusals.specs.declared.Refusal.TheVariants.{UnknownKind, CutRecord}
 use Rattle.records.specs.declared.kind.Kind.{Kind}
@@ -17,9 +16,20 @@ pub record Entry : Type 0 where
   pub place : ℕ
   pub body : List ℕ
 
+-- The body is as long as the kind has it, and an add has at most eight forecasts.
+abbrev pub BodyFits : Kind → List ℕ → Type 0
+BodyFits (TheKinds.Add n) body = (length body ≡ 4 * n) × (n ≤ 8)
+BodyFits TheKinds.Settle body = length body ≡ 4
+BodyFits TheKinds.Drop body = length body ≡ 0
+BodyFits TheKinds.Evaluate body = length body ≡ 3
+
+-- A record whose body is whole.
+abbrev pub Whole : Entry → Type 0
+Whole e = BodyFits e.kind e.body
+
 -- What a record that is handed out says. The forecasts of an add are its body in fours.
 abbrev pub entry : Record → Entry
-entry (TheRecords.Add p b) = record { kind = TheKinds.Add (length b.fours.now); place = p; body = flat_map (λ x. x) b.fours.now }
+entry (TheRecords.Add p b) = record { kind = TheKinds.Add (length b.now / 4); place = p; body = b.now }
 entry (TheRecords.Settle p b) = record { kind = TheKinds.Settle; place = p; body = b.now }
 entry (TheRecords.Drop p b) = record { kind = TheKinds.Drop; place = p; body = b.now }
 entry (TheRecords.Evaluate p b) = record { kind = TheKinds.Evaluate; place = p; body = b.now }
@@ -61,10 +71,11 @@ behind place end (Some (Err r)) = end
 abbrev pub place_after : List ℕ → ℕ → ℕ
 place_after input place = behind place (length input) (next_at input place)
 
--- One call of a reader's `next`: it replies with what there is to tell at its place, names that place where it declines, and
--- goes on behind it in the same input.
+-- One call of a reader's `next`: it replies with what there is to tell at its place, hands out whole records only, names that
+-- place where it declines, and goes on behind it in the same input.
 pub record ReadsOne (old : Reader) (reply : Option (Result Record Unread)) (new : Reader) : Type 0 where
   pub tells : told reply ≡ next_at old.input.now old.place
+  pub whole : IfSome reply (λ read. IfOk read (λ r. Whole (entry r)))
   pub names : IfSome reply (λ read. IfErr read (λ unread. unread.place ≡ old.place))
   pub same : new.input.now ≡ old.input.now
   pub after : new.place ≡ place_after old.input.now old.place

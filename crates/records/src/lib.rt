@@ -1,12 +1,10 @@
 // Records: what an input of bytes holds, one record after another, each handed out as a part of the input itself.
 #![tactic(auto)]
 
-mod forecasts;
 mod kind;
 mod reader;
 mod record;
 
-pub use forecasts::Forecasts;
 pub use kind::Kind;
 pub use reader::{Reader, Unread};
 pub use record::Record;

@@ -52,7 +52,7 @@ impl<'a> Iterator for Reader<'a> {
             return None;
         }
         let read = read_at(*input, start);
-        *place = match &read {
+        *place = match read {
             Ok(record) => start + 1 + record.body().len(),
             Err(_) => input.len(),
         };

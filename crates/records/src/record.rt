@@ -1,20 +1,21 @@
 // A record as it is handed out: its kind, its place, which is where its byte of kind stands, and its body, a part of the input.
-ghost use Rattle.std.specs.Prelude.{◌≡◌, ◌≤◌, length};
+ghost use Rattle.std.specs.Prelude.{◌≡◌, length};
 ghost use Rattle.records.specs.Kinds.{width_of};
 ghost use Rattle.records.specs.Reading.{entry};
 
-use super::{Forecasts, Kind};
+use super::Kind;
 
+// A reader hands out bodies that are as long as their kind has them; a record that is made elsewhere may have any.
 #[derive(Clone, Copy, PartialEq, Eq, Debug)]
 pub enum Record<'a> {
     // The forecasts of a pass.
-    Add { place: usize, body: Forecasts<'a> },
+    Add { place: usize, body: &'a [u8] },
     // A pass in two bytes, a part and an outcome.
-    Settle { place: usize, body: &'a [u8; 4] },
+    Settle { place: usize, body: &'a [u8] },
     // Nothing.
-    Drop { place: usize, body: &'a [u8; 0] },
+    Drop { place: usize, body: &'a [u8] },
     // A rule, its k and a scale.
-    Evaluate { place: usize, body: &'a [u8; 3] },
+    Evaluate { place: usize, body: &'a [u8] },
 }
 
 impl<'a> Record<'a> {
@@ -30,12 +31,12 @@ impl<'a> Record<'a> {
         }
     }
 
-    // The bytes behind it, of which there are as many as its kind has.
+    // The bytes behind it.
     pub fn body(self) -> &'a [u8]
         ensures { result.now ≡ (entry self.entry).body }
     {
         match self {
-            Record::Add { body, .. } => body.fours.as_flattened(),
+            Record::Add { body, .. } => body,
             Record::Settle { body, .. } => body,
             Record::Drop { body, .. } => body,
             Record::Evaluate { body, .. } => body,
@@ -44,29 +45,14 @@ impl<'a> Record<'a> {
 
     // A record whose body is as long as its kind has it.
     pub(super) fn new(kind: Kind, place: usize, body: &'a [u8]) -> Record<'a>
-        requires whole { length body.now ≡ width_of kind }
-        requires few { width_of kind ≤ 32 }
+        requires { length body.now ≡ width_of kind }
         ensures { entry result ≡ record { kind = kind; place = place; body = body.now } }
     {
         match kind {
-            Kind::Add(_) => Record::Add {
-                place,
-                body: Forecasts {
-                    fours: body.as_chunks().0,
-                },
-            },
-            Kind::Settle => Record::Settle {
-                place,
-                body: body.as_array().unwrap(),
-            },
-            Kind::Drop => Record::Drop {
-                place,
-                body: body.as_array().unwrap(),
-            },
-            Kind::Evaluate => Record::Evaluate {
-                place,
-                body: body.as_array().unwrap(),
-            },
+            Kind::Add(_) => Record::Add { place, body },
+            Kind::Settle => Record::Settle { place, body },
+            Kind::Drop => Record::Drop { place, body },
+            Kind::Evaluate => Record::Evaluate { place, body },
         }
     }
 }

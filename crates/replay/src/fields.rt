@@ -1,6 +1,5 @@
 // Values in the body of a record, numbers with the highest byte first.
 ghost use Rattle.std.specs.Prelude.{◌≡◌, ◌≤◌, ◌==◌, length, true, false, if◌then◌else◌};
-ghost use Rattle.std.specs.List.{flat_map};
 ghost use Rattle.refusals.specs.declared.Refusal.TheVariants.{UnknownByte};
 ghost use Rattle.replay.specs.Fields.{forecasts_of};
 
@@ -10,12 +9,13 @@ use refusals::Refusal;
 // The most forecasts of a pass.
 const MOST: usize = 8;
 
-// Forecasts as numbers, from four bytes each. Of a parameter it is known that each has four; behind a field it is not.
+// The forecasts of a body, from four bytes each.
 #[tactic(auto, using(crate::proofs::Fours::forecasts_so_far))]
-pub(super) fn forecasts(fours: &[[u8; 4]]) -> ArrayVec<u32, MOST>
-    requires { length fours.now ≤ 8 }
-    ensures { result.items ≡ forecasts_of (flat_map (λ x. x) fours.now) }
+pub(super) fn forecasts(body: &[u8]) -> ArrayVec<u32, MOST>
+    requires { length body.now ≤ 32 }
+    ensures { result.items ≡ forecasts_of body.now }
 {
+    let (fours, _) = body.as_chunks();
     let mut list = ArrayVec::new();
     for four in fours {
         list.push(u32::from_be_bytes(*four));

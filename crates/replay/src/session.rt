@@ -1,9 +1,8 @@
 // A plan, and the lists that it is evaluated in, between one record and the next.
-ghost use Rattle.std.specs.Prelude.{◌≡◌, [], IfOk};
-ghost use Rattle.std.specs.List.{flat_map};
+ghost use Rattle.std.specs.Prelude.{◌≡◌, ◌≤◌, [], length, IfOk};
 ghost use Rattle.plans.specs.Model.{reply, after, Add};
 ghost use Rattle.plans.specs.Passes.{passes};
-ghost use Rattle.records.specs.Reading.{entry};
+ghost use Rattle.records.specs.Reading.{entry, Whole};
 ghost use Rattle.rules.specs.Automaton.{automaton};
 ghost use Rattle.printing.specs.Puts.{Puts};
 ghost use Rattle.replay.specs.Answers.{record_line, record_plan, read_line, read_plan, closing_line, change_reply, change_plan, settling_of, scale_line, question_line};
@@ -17,7 +16,7 @@ use crate::unanswered::Unanswered;
 use crate::work::Lists;
 use plans::Plan;
 use printing::{put_end, put_refusal};
-use records::{Forecasts, Record, Unread};
+use records::{Record, Unread};
 use refusals::Refusal;
 use rules::{Linear, Rule};
 use scales::{Count, Counting};
@@ -49,6 +48,7 @@ impl Session {
         read: Result<Record<'_>, Unread>,
         out: &mut String,
     ) -> Result<(), AllocError>
+        requires { IfOk read (λ r. Whole (entry r)) }
         ensures text { Puts result out.old out.new (read_line read.entry (passes self.old.plan)) }
         ensures after { passes self.new.plan ≡ read_plan read.entry (passes self.old.plan) }
     {
@@ -67,6 +67,7 @@ impl Session {
 
     // A record that is declined prints its refusal.
     fn answer_record(&mut self, record: Record<'_>, out: &mut String) -> Result<(), AllocError>
+        requires { Whole (entry «record») }
         ensures text { Puts result out.old out.new (record_line (entry «record».entry) (passes self.old.plan)) }
         ensures after { passes self.new.plan ≡ record_plan (entry «record».entry) (passes self.old.plan) }
     {
@@ -78,26 +79,32 @@ impl Session {
     }
 
     // Does what a record asks. A call on the plan that is accepted prints nothing.
-    // By a `match`, and not by a table of closures: the body of each case has a type of its own.
+    // By a `match`, and not by a table of closures: each case takes its body as a type of its own.
     fn carry_out(&mut self, record: Record<'_>, out: &mut String) -> Result<(), Unanswered>
+        requires { Whole (entry «record») }
         ensures text { Carries result out.old out.new (entry «record».entry).place (record_line (entry «record».entry) (passes self.old.plan)) }
         ensures after { passes self.new.plan ≡ record_plan (entry «record».entry) (passes self.old.plan) }
     {
         match record {
             Record::Add { body, .. } => self.add(body)?,
-            Record::Settle { body, .. } => self.settle(body)?,
+            Record::Settle { body, .. } => self.settle(body.as_array().unwrap())?,
             Record::Drop { .. } => self.plan.drop_last()?,
-            Record::Evaluate { place, body } => self.evaluate(place, body, out)?,
+            Record::Evaluate { place, body } => self.evaluate(
+                place,
+                body.as_array().unwrap(),
+                out,
+            )?,
         }
         Ok(())
     }
 
     // Adds the pass that a record describes.
-    fn add(&mut self, body: Forecasts<'_>) -> Result<(), Refusal>
-        ensures reply { result ≡ reply (Add (forecasts_of (flat_map (λ x. x) body.entry.fours.now))) (passes self.old.plan) }
-        ensures after { passes self.new.plan ≡ after (Add (forecasts_of (flat_map (λ x. x) body.entry.fours.now))) (passes self.old.plan) }
+    fn add(&mut self, body: &[u8]) -> Result<(), Refusal>
+        requires { length body.now ≤ 32 }
+        ensures reply { result ≡ reply (Add (forecasts_of body.now)) (passes self.old.plan) }
+        ensures after { passes self.new.plan ≡ after (Add (forecasts_of body.now)) (passes self.old.plan) }
     {
-        self.plan.add(&forecasts(body.fours))
+        self.plan.add(&forecasts(body))
     }
 
     // Settles the part that a record names.
