@@ -1,10 +1,8 @@
 -- What the plan's reading functions find.
-use Rattle.std.proofs.Common.{◌≡◌, ℕ, ◌-◌, ◌<◌, ◌≤◌, length, take, None, Some, Option, MatchOption, MatchResult, sym, ap, ◌∙◌, inl, inr, arith}
-use Rattle.std.specs.List.{slice_get, range_with_len}
+use Rattle.std.proofs.Common.{◌≡◌, ℕ, ◌+◌, ◌-◌, ◌<◌, ◌≤◌, Bool, true, false, length, take, None, Some, Option, MatchOption, MatchResult, nat_lt, ap, ◌∙◌, arith}
+use Rattle.std.specs.Bool.{then_some}
 use Rattle.std.specs.Option.{SomeIff, ok_or}
-use Rattle.std.proofs.lemmas.Bool.{cases_lt}
-use Rattle.std.proofs.lemmas.List.FromFn.{length-range_with_len, get_or-range_with_len}
-use Rattle.std.proofs.lemmas.Option.{slice_get-get_or, slice_get_within, get_or_from_slice_get}
+use Rattle.std.proofs.lemmas.Bool.{ltb-true, ltb-false}
 use Rattle.refusals.specs.declared.Refusal.TheVariants.{NoPass}
 use Rattle.plans.specs.declared.plan.Plan.{Plan}
 use Rattle.plans.specs.Found.{Holds, HoldsPart, IsLast, Declined}
@@ -13,22 +11,13 @@ use Rattle.plans.specs.Passes.{passes}
 use Rattle.plans.proofs.Answering.{declined, after_accepted, drop_none, drop_some}
 use Rattle.plans.proofs.Shape.{place_outside}
 
--- The part i of a pass stands i places past its first, and there is none past its last place.
-pub part_among : (m : Plan) (p i a b : ℕ) (r : Option ℕ) → Holds m p a b → r ≡ slice_get (range_with_len a (b - a)) i
-    → MatchOption r (place (passes m) p i ≡ None) (λ k. HoldsPart m p i k)
-part_among m p i a b None h e =
-    let n = length-range_with_len a (b - a) in
-    elim (cases_lt i (b - a)) [
-      | inl l ↦ let s = slice_get-get_or (range_with_len a (b - a)) i 0 (omega arith) in absurd (cc)
-      | inr g ↦ place_outside m p i a b h (omega arith)
-    ]
-part_among m p i a b (Some k) h e =
-    let n = length-range_with_len a (b - a) in
-    let w = slice_get_within (range_with_len a (b - a)) i k (sym e) in
-    let j : i < b - a = omega arith in
-    let g = get_or_from_slice_get (range_with_len a (b - a)) i k 0 (sym e) in
-    let f = get_or-range_with_len a (b - a) i 0 j in
+-- The part i of a pass stands i places past its first, where that is before its end; otherwise there is none.
+pub part_before : (m : Plan) (p i a b : ℕ) → Holds m p a b → (before : Bool) → nat_lt (a + i) b ≡ before
+    → MatchOption (then_some before (a + i)) (place (passes m) p i ≡ None) (λ k. HoldsPart m p i k)
+part_before m p i a b h true e =
+    let l = ltb-true (a + i) b e in
     record { within = h.within; is = omega (arith, h.starts); before = omega (arith, h.stops); room = omega (arith, h.room) }
+part_before m p i a b h false e = place_outside m p i a b h (ltb-false (a + i) b e)
 
 -- The last pass is the one before their number, if that is a number.
 pub last_before : (m : Plan) (n : ℕ) (r : Option ℕ) → n ≡ length (passes m) → SomeIff r (1 ≤ n) (n - 1)

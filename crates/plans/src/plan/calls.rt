@@ -73,7 +73,9 @@ impl Plan {
     fn find(&self, pass: usize, part: usize) -> Option<usize>
         ensures { MatchOption result (place (passes self.now) pass part ≡ None) (λ k. HoldsPart self.now pass part k) }
     {
-        self.places(pass)?.nth(part)
+        let places = self.places(pass)?;
+        let place = places.start.checked_add(part)?;
+        (place < places.end).then_some(place)
     }
 
     // The number of the last pass, or why there is none.
