@@ -54,6 +54,8 @@ pub(super) fn advance<R: Rule, W: Weigher>(
     let weights = PassWeights::of(weigher, pass);
     clear(next);
     for (state, total) in totals.iter().enumerate() {
+        // A copy, so that what is written to `next` does not have it read and tested again.
+        let total = *total;
         add_at(next, rule.step(state, true), total.times(weights.good));
         add_at(next, rule.step(state, false), total.times(weights.bad));
     }

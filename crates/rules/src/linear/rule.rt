@@ -1,6 +1,7 @@
 // The states of linear, and the theorem that they judge by runs of missed passes.
 //
-// State j below k is the present run of missed passes; state k is lost for good.
+// State j below k is the present run of missed passes; state k is lost for good. The states are told apart by guards, and not by `cmp`:
+// of an `Ordering` the compiled sweep asks the same again in each state, which takes half as much time again.
 ghost use Rattle.std.specs.Prelude.{ℕ, ◌≤◌, Bool, List};
 ghost use Rattle.rules.specs.Judgement.{judgement};
 ghost use Rattle.rules.specs.Linear.{linear, linear_judges, LinearSettles};
@@ -8,7 +9,6 @@ ghost use Rattle.std.proofs.Common.{rules};
 
 use super::Linear;
 use crate::{Judging, Rule, Verdict};
-use std::cmp::Ordering;
 
 impl Rule for Linear {
     ghost states = { λ rule. (linear rule.k).states };
@@ -40,18 +40,18 @@ impl Rule for Linear {
     }
 
     fn step(&self, state: usize, made: bool) -> usize {
-        match state.cmp(&self.k) {
-            Ordering::Less => if made { 0 } else { state + 1 },
-            Ordering::Equal => state,
-            Ordering::Greater => self.first(),
+        match state {
+            run if run < self.k => if made { 0 } else { run + 1 },
+            lost if lost == self.k => lost,
+            _ => self.first(),
         }
     }
 
     fn verdict(&self, state: usize) -> Verdict {
-        match state.cmp(&self.k) {
-            Ordering::Less => Verdict::Kept,
-            Ordering::Equal => Verdict::Lost,
-            Ordering::Greater => Verdict::Aside,
+        match state {
+            run if run < self.k => Verdict::Kept,
+            lost if lost == self.k => Verdict::Lost,
+            _ => Verdict::Aside,
         }
     }
 }
