@@ -2,15 +2,23 @@
 // plan has parts.
 ghost use Rattle.std.specs.Prelude.{ℕ, List, Some};
 ghost use Rattle.std.specs.Fmt.{WritesOnOk};
+ghost use Rattle.printing.specs.Puts.{Puts};
 
+use std::alloc::AllocError;
 use std::fmt;
 
 pub trait Printed {
     // The text of a value in a plan of so many parts.
     ghost printed: { Self → ℕ → List ℕ };
 
-    // Writes that text to any writer.
+    // Prints that text behind what a string holds.
+    fn put(&self, parts: usize, out: &mut String) -> Result<(), AllocError>
+        ensures { Puts result out.old out.new (printed self.now parts) };
+
+    // Writes that text to any writer. A `dyn Printed` has `put` alone, since a method with a type parameter is not for it.
     fn fmt_in<W: fmt::Write>(&self, parts: usize, f: &mut fmt::Formatter<W>) -> fmt::Result
+    where
+        Self: Sized,
         ensures { WritesOnOk W.write_str_gives f.old result (printed self.now parts) f.new };
 }
 

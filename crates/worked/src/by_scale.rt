@@ -6,7 +6,7 @@ use plans::Plan;
 use printing::{Printed, put_answer};
 use refusals::Refusal;
 use rules::Linear;
-use scales::{Counting, Minimizing, Scale, Tallying, Weigher};
+use scales::{Count, Counting, Fewest, Minimizing, Scale, Tallying, Weigher};
 use std::alloc::Global;
 use std::process::Abort;
 use std::test::Fail;
@@ -176,4 +176,28 @@ fn lines_printed(rt: HostRuntime) -> Result<(), Fail> {
         &aside,
         "A 0 1073741824-1073741824 0-0 0-0\n",
     )
+}
+
+// A value by itself, of whatever scale.
+fn put_alone(
+    rt: &impl Abort,
+    alloc: Global,
+    value: &dyn Printed,
+    parts: usize,
+    text: &str,
+) -> Result<(), Fail> {
+    let mut out = String::new(alloc);
+    value.put(parts, &mut out)?;
+    assert_eq!(rt; out.as_str(), text);
+    Ok(())
+}
+
+#[test]
+fn values_put(rt: HostRuntime) -> Result<(), Fail> {
+    let alloc = rt.alloc();
+    put_alone(&rt, alloc, &Count::from(8), 4, "8")?;
+    put_alone(&rt, alloc, &Tallying.down(0), 4, "0,1,0,0,0")?;
+    put_alone(&rt, alloc, &Fewest::from(2), 4, "2")?;
+    put_alone(&rt, alloc, &Fewest::zero(), 4, "none")?;
+    put_alone(&rt, alloc, &Ends { low: 0, high: 3 }, 4, "0-3")
 }
