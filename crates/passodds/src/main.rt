@@ -6,12 +6,13 @@ use std::io;
 use std::io::Read;
 
 // The most bytes that are read.
-const LARGEST: u64 = 65536;
+const LARGEST: usize = 65536;
 
 fn main(rt: HostRuntime) -> io::Result<()> {
     let alloc = rt.alloc();
-    let mut input = Vec::new(alloc);
-    rt.stdin().take(LARGEST).read_to_end(&mut input)?;
+    // With a place to spare, so that the end is found without more memory.
+    let mut input = Vec::with_capacity(alloc, LARGEST + 1)?;
+    rt.stdin().take(LARGEST as u64).read_to_end(&mut input)?;
     let text = respond(alloc, &input)?;
     rt.print(text)
 }
