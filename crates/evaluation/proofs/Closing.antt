@@ -54,7 +54,7 @@ module _ {V : Type 0} (scale : ScaleMeaning V) (rule : Automaton) where
   closes_with up down plan left totals closes none len t h =
       sym (ap (λ ps. closing_from scale rule up down (λ s. get_or totals s scale.zero) ps t) none) ∙ closes.at t (omega arith)
 
-  judged_same : (f g : ℕ → V) (n k : ℕ) → ((s : ℕ) → s < n → f s ≡ g s) → judged scale rule f n k ≡ judged scale rule g n k
+  pub judged_same : (f g : ℕ → V) (n k : ℕ) → ((s : ℕ) → s < n → f s ≡ g s) → judged scale rule f n k ≡ judged scale rule g n k
   judged_same f g zero k same = refl
   judged_same f g (suc n) k same =
       let before : judged scale rule f n k ≡ judged scale rule g n k = judged_same f g n k (λ s h. same s (omega arith)) in

@@ -4,6 +4,7 @@ use Rattle.std.proofs.lemmas.Bool.{cases_lt}
 use Rattle.odds.specs.declared.ends.Ends.{Ends}
 use Rattle.odds.specs.Enclosing.{Encloses}
 use Rattle.odds.specs.Odds.{unit, sum, product, rounded_down, rounded_up}
+use Rattle.odds.proofs.Rounding.{down_below, up_above}
 
 min_times_le : (a b D x : ℕ) → a * D ≤ x → min a b * D ≤ x
 min_times_le a b D x h =
@@ -21,12 +22,6 @@ sum_encloses a b S T D fit p q = record {
   below = min_times_le (a.low + b.low) unit D _ (omega arith);
   above = le_min_times (a.high + b.high) unit D _ (omega arith) (omega arith);
 }
-
-down_below : (a b : ℕ) → rounded_down a b * unit ≤ a * b
-down_below a b = omega arith
-
-up_above : (a b : ℕ) → a * b ≤ rounded_up a b * unit
-up_above a b = omega arith
 
 below_times : (a b S T D E : ℕ) → a * D ≤ S * unit → b * E ≤ T * unit → rounded_down a b * (D * E) ≤ S * T * unit
 below_times a b S T D E p q =

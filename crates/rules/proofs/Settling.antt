@@ -1,7 +1,7 @@
--- How conditions come to settle a verdict.
-use Rattle.std.proofs.Common.{◌≡◌}
+-- How conditions come to settle a verdict, and that they settle one verdict only.
+use Rattle.std.proofs.Common.{◌≡◌, sym, refl}
 use Rattle.rules.specs.declared.verdict.Verdict.{Verdict}
-use Rattle.rules.specs.declared.verdict.Verdict.TheVariants.{Kept, Lost}
+use Rattle.rules.specs.declared.verdict.Verdict.TheVariants.{Kept, Lost, Aside}
 use Rattle.rules.specs.Settled.{Settles}
 
 module _ {kept lost aside : Type 0} where
@@ -24,3 +24,8 @@ module _ {kept lost aside : Type 0} where
     aside_if = λ a. absurd (not_aside a);
     aside_only_if = λ e. absurd (cc);
   }
+
+  pub settled_same : (v w : Verdict) → Settles kept lost aside v → Settles kept lost aside w → v ≡ w
+  settled_same Kept w one other = sym (other.kept_if (one.kept_only_if refl))
+  settled_same Lost w one other = sym (other.lost_if (one.lost_only_if refl))
+  settled_same Aside w one other = sym (other.aside_if (one.aside_only_if refl))
