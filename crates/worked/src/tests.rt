@@ -3,6 +3,7 @@ use crate::listing::listed;
 use crate::trying::{answers, mixed, singles};
 use evaluation::evaluate;
 use plans::Plan;
+use records::Record;
 use refusals::Refusal;
 use replay::respond;
 use rules::Linear;
@@ -167,4 +168,15 @@ fn reading_stops(rt: HostRuntime) -> Result<(), Fail> {
     told(&rt, alloc, b"\x21\x23", "R 0 11\nE 0 0\n")?;
     told(&rt, alloc, b"\x23\x19\x23", "R 0 6\nR 1 11\nE 0 0\n")?;
     told(&rt, alloc, b"\x11\x00\x00\x00", "R 0 12\nE 0 0\n")
+}
+
+// A record that no reader made may have any body.
+#[test]
+fn any_body(rt: HostRuntime) -> Result<(), Fail> {
+    let body = b"\x01\x02\x03".as_slice();
+    assert_eq!(rt; Record::Add { place: 0, body }.body(), body);
+    assert_eq!(rt; Record::Settle { place: 0, body }.body(), body);
+    assert_eq!(rt; Record::Drop { place: 0, body }.body(), body);
+    assert_eq!(rt; Record::Evaluate { place: 0, body }.body(), body);
+    Ok(())
 }
