@@ -35,7 +35,11 @@ impl ByMissed {
     pub(super) fn one_with(down: usize) -> ByMissed
         ensures { result ≡ tally (only down) }
     {
-        ByMissed::at_each(|i| u64::from(i == down))
+        let mut counts = [0; PLACES];
+        if down < PLACES {
+            counts[down] = 1;
+        }
+        ByMissed::from(counts)
     }
 }
 
